@@ -1,0 +1,7 @@
+mod Apart
+mod Fronts
+mod Maps
+mod OneWay
+mod Places
+mod Sofar
+mod Splits
