@@ -1,0 +1,4 @@
+mod Lines
+mod Pages
+mod Targets
+mod Whole
