@@ -1,7 +1,7 @@
 // What the lister prints: a line for each record, and one for the refusal that ends a sheet.
 ghost use mathlib.Core.Path.{_≡_};
 ghost use mathlib.Core.Bool.{true};
-ghost use mathlib.Core.List.{List, _++_};
+ghost use mathlib.Core.List.{List, [], _++_};
 ghost use Prim.Native.Nat.{_+_, _≤_};
 ghost use lib.ListN.{length};
 ghost use Rattle.std.specs.Of.Vec.{vec-items, vec-len, vec-cap};
@@ -195,14 +195,16 @@ fn put_refusal(page: &mut Page, number: u8, place: usize)
 }
 
 // Writes what is on a sheet, record by record, up to its end or to the record that is refused.
-// The records are kept in `records` meanwhile.
+// The records are kept in `records` meanwhile, which is left empty.
 pub fn list_sheet(bytes: &[u8], records: &mut Vec<Record>, page: &mut Page)
     ensures listed { λ _. ⌜ (now (page .exit) .whole ≡ true → (now (page .entry) .whole ≡ true) × Listed (now (bytes .entry)) (now (page .entry)) (now (page .exit))) ⌝ }
     ensures roomy { λ _. ⌜ (now (page .entry) .whole ≡ true → Roomy (now (bytes .entry)) (vec-cap (now (records .entry))) (now (page .entry)) → now (page .exit) .whole ≡ true) ⌝ }
+    ensures emptied { λ _. ⌜ vec-items (now (records .exit)) ≡ [] ⌝ }
 {
     records.clear();
     let end = read_sheet(bytes, records);
     put_records(page, records.as_slice());
+    records.clear();
     let Err(fault) = end else {
         return;
     };

@@ -37,6 +37,7 @@ returns-in-Some c =
     let reads = outcome-reads bs (r .0) f (c .in-Some .number) (c .in-Some .ensures tt) (r .2) in
     record {
       listed = is-listed bs (r .0) (Err f) p s reads all (c .in-Err .ensures tt .one-way);
+      emptied = c .clear-2 .ensures .items;
       roomy = is-whole bs (r .0) (Err f) p s reads all (vec-cap (c .args .records .now));
     }
 
@@ -49,6 +50,7 @@ returns-in-None c =
     let full = c .in-Err .ensures tt .full (ap Err (b .0)) in
     record {
       listed = λ h. absurd (false≢true h);
+      emptied = c .clear-2 .ensures .items;
       roomy = λ h k. absurd
           (no-room bs (r .0) (vec-cap (c .args .records .now)) (b .1) (omega (arith, c .clear .ensures .capacity, c .read-sheet-end .last .records .ok .0)) (k .for-records));
     }
