@@ -1,4 +1,6 @@
 // What every block has, the calls on it, and what a lower end means.
+#![tactic(auto)]
+
 pub mod alone;
 pub mod calls;
 pub mod end;

@@ -1,5 +1,7 @@
 // The worked cases, proved, and the published bytes, words and names, the laws, the ends and the edges of what is refused,
 // run as tests. Every expected byte is a literal.
+#![tactic(auto)]
+
 #[cfg(test)]
 mod end_tests;
 #[cfg(test)]

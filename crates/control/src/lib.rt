@@ -1,4 +1,6 @@
 // The control block: any law above any lower end, and again a lower end.
+#![tactic(auto)]
+
 pub mod control;
 pub mod fault;
 pub mod kinds;

@@ -1,4 +1,6 @@
 // The two kinds of lower end: the analog end and the pulse end.
+#![tactic(auto)]
+
 pub mod analog;
 pub mod making;
 pub mod pulse;

@@ -1,4 +1,6 @@
 // A third law and a third end, written as somebody else would: they need their own facts alone.
+#![tactic(auto)]
+
 pub mod dead_band;
 pub mod on_off;
 

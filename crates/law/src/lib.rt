@@ -1,4 +1,6 @@
 // Control laws: what one means, and the two that are to be had.
+#![tactic(auto)]
+
 pub mod fault;
 pub(crate) mod gain;
 pub mod gain_bias;

@@ -1,4 +1,6 @@
 // Numbers written as text into a line buffer. A call that finds no memory leaves the buffer as it was.
+#![tactic(auto)]
+
 ghost use Rattle.std.specs.Prelude.{◌≡◌, ◌+◌, ◌<◌, ◌≤◌, true, [], ◌∷◌, ◌++◌, length, take, is_ok, vec_len, vec_capacity, decimal, MatchResult};
 ghost use Rattle.std.specs.Fmt.{signed_decimal, digit_glyph};
 ghost use Rattle.line.specs.Appended.{Appended};

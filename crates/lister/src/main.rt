@@ -1,4 +1,6 @@
 // Reads a call sheet on standard input and says what is on it; no call is run.
+#![tactic(auto)]
+
 ghost use Rattle.std.specs.Prelude.{◌≡◌, List, IfOk};
 ghost use Rattle.sheet.specs.OneWay.{Ending, Reads};
 ghost use Rattle.sheet.specs.declared.record.Record.{Record};

@@ -1,4 +1,6 @@
 // Call sheets: records and their bytes, both ways.
+#![tactic(auto)]
+
 pub mod calls;
 pub mod fault;
 mod field;

@@ -1,4 +1,6 @@
 // Values, limits, status bytes and modes: what passes between the blocks of a cascade.
+#![tactic(auto)]
+
 pub mod codes;
 pub mod kinds;
 pub mod limits;
