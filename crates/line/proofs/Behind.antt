@@ -1,5 +1,5 @@
 -- One text more behind what is written. Assumes nothing.
-use Rattle.std.proofs.Common.{◌≡◌, ℕ, cond, List, [], ◌∷◌, ◌++◌, length, take, ℤ, pos, negsuc, nat_abs, ◌≤ℤ◌, ◌<ℤ◌, is_ok, Ok, Err, decimal, Result, sym, refl, ap, ◌∙◌, append_assoc, arith, MatchResult}
+use Rattle.std.proofs.Common.{◌≡◌, ℕ, cond, List, ◌∷◌, ◌++◌, length, take, ℤ, pos, negsuc, nat_abs, ◌≤ℤ◌, ◌<ℤ◌, is_ok, Ok, Err, decimal, Result, sym, refl, ap, ◌∙◌, append_assoc, arith, MatchResult}
 use Rattle.std.specs.Fmt.{signed_decimal}
 use Rattle.std.proofs.lemmas.List.{take_at}
 use Rattle.std.proofs.lemmas.Int.{ints}

@@ -1,13 +1,12 @@
 -- Two records, or two lists of records, never have the same bytes. Assumes nothing.
-use Rattle.std.proofs.Common.{◌≡◌, ℕ, ◌+◌, ◌/◌, ◌%◌, ◌<◌, ◌≤◌, Bool, true, false, ◌⊎◌, List, [], ◌∷◌, ◌++◌, length, ℤ, is_some, IfSome, Some, None, Option, sym, refl, ap, ◌∙◌, subst, inl, inr, arith, w32, SFits, to_z, of_z}
+use Rattle.std.proofs.Common.{◌≡◌, ℕ, ◌/◌, ◌%◌, ◌<◌, ◌≤◌, Bool, true, ◌⊎◌, List, [], ◌∷◌, ◌++◌, length, ℤ, is_some, IfSome, Some, None, Option, sym, refl, ap, ◌∙◌, subst, inl, inr, arith, w32, SFits, to_z, of_z}
 use mir.Facts.{Fits-of_z}
-use Rattle.std.specs.List.{flat_map, AllByRecursion as All}
+use Rattle.std.specs.List.{AllByRecursion as All}
 use Rattle.std.proofs.lemmas.List.{append_assoc, length-append}
 use Rattle.std.proofs.lemmas.Int.{to_z-of_z}
 use Rattle.std.proofs.lemmas.Bool.{false≢true, true≢false}
 use Rattle.sheet.specs.declared.record.Record.{Record}
-use Rattle.sheet.specs.declared.record.Input.{Input}
-use Rattle.sheet.specs.Bytes.{field, byte_field, number_field, input_field, number_bytes, input_bytes, fields, map_of, bit_map, record_bytes, sheet_bytes, stands, promised_length, Sound}
+use Rattle.sheet.specs.Bytes.{field, number_bytes, input_bytes, fields, map_of, bit_map, record_bytes, sheet_bytes, stands, promised_length, Sound}
 use Rattle.sheet.proofs.Maps.{Bits, all_bits, same, stands_map, map_small}
 use Rattle.sheet.proofs.Places.{length_fields}
 

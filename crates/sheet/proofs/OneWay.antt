@@ -1,5 +1,5 @@
 -- A sheet reads one way only. Assumes nothing.
-use Rattle.std.proofs.Common.{◌≡◌, ℕ, ◌+◌, ◌<◌, ◌≤◌, cond, ltb, ◌⊎◌, List, [], ◌∷◌, ◌++◌, length, drop, Ok, Err, sym, refl, ap, ◌∙◌, subst, inl, inr, arith}
+use Rattle.std.proofs.Common.{◌≡◌, ℕ, ◌+◌, ◌<◌, ◌≤◌, cond, ltb, List, [], ◌∷◌, ◌++◌, length, drop, Ok, Err, sym, refl, ap, ◌∙◌, subst, inl, inr, arith}
 use Rattle.std.specs.List.{AllByRecursion as All}
 use Rattle.std.proofs.lemmas.List.{append-nil}
 use Rattle.std.proofs.lemmas.Bool.{cases_lt, cond_below, cond_above}
@@ -9,7 +9,7 @@ use Rattle.sheet.specs.declared.record.SheetFault.TheVariants.{CutShort, BitSeve
 use Rattle.sheet.specs.Bytes.{record_bytes, sheet_bytes, promised_length, Sound}
 use Rattle.sheet.specs.OneWay.{NotTooLong, Cut, Seventh, Ending, Reads, whole, cut_short, bit_seven, too_long, RecordAt, BadAt, OneWay}
 use Rattle.sheet.proofs.Apart.{Stuck, record_front, not_stuck, sheet_front}
-use Rattle.sheet.proofs.Splits.{Split, split}
+use Rattle.sheet.proofs.Splits.{split}
 
 -- how a sheet ends that has come to the place p, with this rest
 abbrev ending : ℕ → List ℕ → Ending

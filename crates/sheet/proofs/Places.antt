@@ -1,8 +1,8 @@
 -- What stands at a place of a byte string: a record, or a refusal. Assumes nothing.
-use Rattle.std.proofs.Common.{◌≡◌, ℕ, ◌+◌, ◌-◌, ◌%◌, ◌<◌, ◌≤◌, cond, List, [], ◌∷◌, ◌++◌, length, get_or, take, drop, is_some, Some, None, Option, sym, refl, ap, ◌∙◌, subst, arith}
+use Rattle.std.proofs.Common.{◌≡◌, ℕ, ◌+◌, ◌-◌, ◌%◌, ◌<◌, ◌≤◌, cond, List, [], ◌∷◌, ◌++◌, length, get_or, take, drop, is_some, Some, None, Option, sym, refl, ap, ◌∙◌, arith}
 use Rattle.std.proofs.lemmas.List.{drop_more, drop_all, drop-drop, drop_at, take_rest, length-append, length-drop}
 use Rattle.sheet.specs.declared.record.Record.{Record}
-use Rattle.sheet.specs.Bytes.{field, byte_field, number_field, input_field, number_bytes, input_bytes, fields, bit_map, record_bytes, promised_length, Sound}
+use Rattle.sheet.specs.Bytes.{field, byte_field, number_field, input_field, number_bytes, input_bytes, fields, bit_map, promised_length, Sound}
 use Rattle.sheet.specs.OneWay.{NotTooLong, Cut, Seventh, RecordAt}
 use Rattle.sheet.proofs.Maps.{promised_length_map, promised_length_seven}
 

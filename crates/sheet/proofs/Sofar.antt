@@ -1,13 +1,13 @@
 -- What the reading of a sheet has come to at a place. Assumes nothing.
 use Rattle.std.proofs.Common.{◌≡◌, ℕ, ◌+◌, ◌<◌, ◌≤◌, ◌⊎◌, List, [], ◌∷◌, ◌++◌, length, get_or, drop, Ok, Err, sym, refl, ap, ◌∙◌, subst, inl, inr, arith}
-use Rattle.std.specs.List.{flat_map, AllByRecursion as All}
+use Rattle.std.specs.List.{AllByRecursion as All}
 use Rattle.std.proofs.lemmas.List.{append-nil, append_assoc, flat_map_more, drop_all, drop_more, length-append, length_push}
 use Rattle.std.proofs.ByRecursion.{All-push}
 use Rattle.sheet.specs.declared.record.Record.{Record}
 use Rattle.sheet.specs.declared.record.SheetFault.{SheetFault}
 use Rattle.sheet.specs.declared.record.SheetFault.TheVariants.{CutShort, BitSeven, TooLong, Memory}
 use Rattle.sheet.specs.Bytes.{record_bytes, sheet_bytes, Sound}
-use Rattle.sheet.specs.OneWay.{NotTooLong, Cut, Seventh, Reads, whole, cut_short, bit_seven, Ending, Begins, Outcome, RecordAt, BadAt}
+use Rattle.sheet.specs.OneWay.{NotTooLong, Cut, Reads, whole, cut_short, bit_seven, Ending, Outcome, RecordAt, BadAt}
 
 -- new is old and the records that stand before the place
 pub record Sofar (bs : List ℕ) (old new : List Record) (place : ℕ) : Type 0 where

@@ -2,7 +2,7 @@
 --     record_bytes r      the bit map, then only the fields that are there, lowest bit first
 --     sheet_bytes rs      the records' bytes, one after the other
 --     promised_length b     how many bytes must follow a bit map b
-use Rattle.std.specs.Prelude.{◌≡◌, ℕ, ◌+◌, ◌*◌, ◌/◌, ◌%◌, ◌^◌, ◌<◌, Bool, true, false, cond, List, [], ◌∷◌, ◌++◌, ℤ, is_some, IfSome, Some, None, Option, FitsSigned, ◌==◌}
+use Rattle.std.specs.Prelude.{ℕ, ◌+◌, ◌/◌, ◌%◌, ◌^◌, Bool, cond, List, [], ◌∷◌, ◌++◌, ℤ, is_some, IfSome, Some, None, Option, FitsSigned, ◌==◌}
 use Rattle.std.specs.Int.{w32}
 use Rattle.std.proofs.Common.{of_z}
 use Rattle.std.specs.List.{flat_map}

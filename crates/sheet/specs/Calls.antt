@@ -2,7 +2,7 @@
 --     calls_of r      the calls of r, in the order of their bits
 --     calls_left s    the calls that an iterator over them has still to give
 --     call_word c     the word by which a call is printed
-use Rattle.std.specs.Prelude.{ℕ, Bool, true, false, cond, List, [], ◌∷◌, ◌++◌, codes}
+use Rattle.std.specs.Prelude.{ℕ, cond, List, [], ◌∷◌, ◌++◌, codes}
 use Rattle.std.specs.Option.{option_to_list, option_map}
 use Rattle.sheet.specs.declared.calls.Calls.{Calls}
 use Rattle.sheet.specs.declared.record.Record.{Record}

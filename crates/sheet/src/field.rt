@@ -101,7 +101,7 @@ impl Field for Input {
 
 // The field at the front where its bit stands, and what follows it.
 pub fn take_field<F: Field>(there: bool, bytes: &[u8]) -> Option<(Option<F>, &[u8])>
-    ensures { MatchOption result (length bytes.now < (if there then width else 0)) (λ x. (is_some x.0 ≡ there) × (bytes.now ≡ field wire x.0 ++ x.1.now) × IfSome x.0 fits) }
+    ensures { MatchOption result (length bytes.now < (if there then F.width else 0)) (λ x. (is_some x.0 ≡ there) × (bytes.now ≡ field F.wire x.0 ++ x.1.now) × IfSome x.0 F.fits) }
 {
     if !there {
         return Some((None, bytes));
@@ -112,10 +112,10 @@ pub fn take_field<F: Field>(there: bool, bytes: &[u8]) -> Option<(Option<F>, &[u
 
 // Writes a field where there is one.
 pub fn put_field<F: Field>(f: Option<F>, out: &mut Vec<u8>) -> Result<(), AllocError>
-    ensures items { out.new.items ≡ (if is_ok result then out.old.items ++ field wire f else out.old.items) }
-    ensures len { vec_len out.new ≡ (if is_ok result then vec_len out.old + length (field wire f) else vec_len out.old) }
+    ensures items { out.new.items ≡ (if is_ok result then out.old.items ++ field F.wire f else out.old.items) }
+    ensures len { vec_len out.new ≡ (if is_ok result then vec_len out.old + length (field F.wire f) else vec_len out.old) }
     ensures capacity { vec_capacity out.old ≤ vec_capacity out.new }
-    ensures succeeds { vec_len out.old + length (field wire f) ≤ vec_capacity out.old → is_ok result ≡ true }
+    ensures succeeds { vec_len out.old + length (field F.wire f) ≤ vec_capacity out.old → is_ok result ≡ true }
 {
     match f {
         Some(x) => x.put(out),

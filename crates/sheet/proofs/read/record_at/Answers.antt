@@ -1,12 +1,12 @@
-use Rattle.std.proofs.Common.{◌<◌, length, get_or, refl, arith, rules}
+use Rattle.std.proofs.Common.{◌<◌, get_or, refl, rules}
 use Rattle.sheet.proofs.Places.{cut_past, cut_here, seventh_here, record_here}
 use Rattle.sheet.proofs.read.record_at.Goals as goal
 
 pub returns-then-place-bytes : goal.returns-then-place-bytes
 returns-then-place-bytes c = (c.requires, refl, cut_past c.args.bytes.now c.args.place c.if-place-bytes.true)
 
-pub returns-in-default : goal.returns-in-default
-returns-in-default c = (c.requires, refl, cut_here c.args.bytes.now c.args.place c.if-place-bytes.false c.in-default.ensures)
+pub returns-in_default : goal.returns-in_default
+returns-in_default c = (c.requires, refl, cut_here c.args.bytes.now c.args.place c.if-place-bytes.false c.in_default.ensures)
 
 pub returns-then-map-ge128 : goal.returns-then-map-ge128
 returns-then-map-ge128 c =
