@@ -1,11 +1,11 @@
 -- The lines of a sheet, one record after the other. Assumes nothing.
-use Rattle.std.proofs.Common.{◌≡◌, ℕ, ◌+◌, ◌<◌, ◌≤◌, false, List, [], ◌∷◌, ◌++◌, length, get_or, drop, None, Ok, Err, sym, refl, ap, ◌∙◌, subst, append_assoc, append-nil, arith}
+use Rattle.std.proofs.Common.{◌≡◌, ℕ, ◌+◌, ◌<◌, ◌≤◌, false, List, [], ◌∷◌, ◌++◌, length, get_or, drop, None, Ok, Err, sym, ap, ◌∙◌, arith}
 use Rattle.std.proofs.lemmas.List.{at_drop_more, at_drop_all, length-append}
 use Rattle.sheet.specs.Bytes.{record_bytes, sheet_bytes}
-use Rattle.sheet.specs.OneWay.{NotTooLong, Ending, Reads, whole, cut_short, bit_seven, too_long, Begins, Outcome, OneWay}
+use Rattle.sheet.specs.OneWay.{NotTooLong, Ending, Reads, whole, cut_short, bit_seven, too_long, Outcome}
 use Rattle.sheet.specs.declared.record.Record.{Record}
 use Rattle.sheet.specs.declared.record.SheetFault.TheVariants.{CutShort, BitSeven, TooLong, Memory}
-use Rattle.lister.specs.Listing.{record_line, lines_from, listing}
+use Rattle.lister.specs.Listing.{record_line, lines_from}
 
 -- a record with no field, which stands past the end of a list
 abbrev pub blank : Record

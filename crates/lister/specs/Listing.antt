@@ -3,7 +3,7 @@
 --     record_line p r     the place p of a record, its block, and its calls in bit order
 --     call_text c         a call's word and its value
 --     status_text s       a status: its byte, its three parts, and its published name where it has one
-use Rattle.std.specs.Prelude.{◌≡◌, ℕ, ◌+◌, ◌/◌, ◌%◌, cond, List, [], ◌∷◌, ◌++◌, length, Some, None, Ok, Err, codes, decimal, Option, ◌==◌}
+use Rattle.std.specs.Prelude.{ℕ, ◌+◌, ◌/◌, ◌%◌, cond, List, [], ◌∷◌, ◌++◌, length, Some, None, Ok, Err, codes, decimal, Option, ◌==◌}
 use Rattle.std.specs.Option.{unwrap_or}
 use Rattle.std.specs.Fmt.{signed_decimal}
 use Rattle.std.specs.List.{flat_map}
@@ -19,7 +19,6 @@ use Rattle.sheet.specs.Refusals.{fault_number, fault_place}
 use Rattle.sheet.specs.declared.record.Call.{Call}
 use Rattle.sheet.specs.declared.record.Call.TheVariants.{Target, Switch, Input, Setpoint, Output, Round}
 use Rattle.sheet.specs.declared.record.Record.{Record}
-use Rattle.sheet.specs.declared.record.SheetFault.{SheetFault}
 
 -- a space, and then a text
 abbrev pub after_space : List ℕ → List ℕ

@@ -1,5 +1,4 @@
-use Rattle.std.proofs.Common.{◌≡◌, ◌/◌, ◌%◌, [], ◌∷◌, ◌++◌, codes, decimal, sym, refl, ap, ◌∙◌}
-use Rattle.std.specs.Fmt.{signed_decimal}
+use Rattle.std.proofs.Common.{codes}
 use Rattle.sheet.specs.Calls.{call_word}
 use Rattle.lister.specs.Listing.{call_value}
 use Rattle.lister.proofs.Pages.{three, as_text}
@@ -7,5 +6,5 @@ use Rattle.lister.proofs.listing.put_call.Goals as goal
 
 pub returns : goal.returns
 returns c =
-    three c.args.page.now c.put.new.page c.put-2.new.page c.put-value.new.page (codes ", ") (call_word c.args.call) (call_value c.args.call) c.put.ensures
-    (as_text c.put.new.page c.put-2.new.page c.word.result.now _ c.put-2.ensures c.word.ensures) c.put-value.ensures
+    three c.args.page.now c.put.new.page c.put-2.new.page c.put_value.new.page (codes ", ") (call_word c.args.call) (call_value c.args.call) c.put.ensures
+    (as_text c.put.new.page c.put-2.new.page c.word.result.now _ c.put-2.ensures c.word.ensures) c.put_value.ensures

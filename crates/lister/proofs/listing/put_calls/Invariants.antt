@@ -1,4 +1,3 @@
-use Rattle.std.proofs.Common.{◌≡◌, ℕ, List, ◌++◌}
 use Rattle.std.specs.List.{flat_map}
 use Rattle.sheet.specs.Calls.{calls_of, calls_left}
 use Rattle.lister.specs.Listing.{call_text}

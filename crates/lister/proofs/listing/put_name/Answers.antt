@@ -1,5 +1,4 @@
-use Rattle.std.proofs.Common.{◌≡◌, ◌/◌, ◌%◌, [], ◌∷◌, ◌++◌, codes, decimal, sym, refl, ap, ◌∙◌}
-use Rattle.std.specs.Fmt.{signed_decimal}
+use Rattle.std.proofs.Common.{◌∷◌, ◌++◌, codes, ap, ◌∙◌}
 use Rattle.signal.specs.Codes.{quality_word}
 use Rattle.lister.specs.Listing.{named}
 use Rattle.lister.proofs.Pages.{four, as_text}
