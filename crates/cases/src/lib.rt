@@ -205,7 +205,7 @@ mod tests {
         for item in records.iter() {
             assert!(rt; item.write(&mut bytes).is_ok());
         }
-        assert_eq!(rt; bytes.as_slice(), &WHOLE);
+        assert_eq!(rt; bytes.as_slice(), WHOLE.as_slice());
         bytes.push(0x20)?;
         let Err(fault) = read_sheet(bytes.as_slice(), &mut records) else {
             return Err(Fail::new("a sheet"));
