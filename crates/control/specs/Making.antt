@@ -52,7 +52,7 @@ FirstFault n size BadOptions = GoodLimits n × GoodPermitted n × (GoodOptions n
 FirstFault n size TooManyBlocks = GoodLimits n × GoodPermitted n × GoodOptions n × (15 < size)
 
 pub record LimitsOf (n : ControlSetup) (sp out : Limits) : Type 0 where
-  pub sp_low : sp.low.raw ≡ n.sp_low
+  pub sp_low_is : sp.low.raw ≡ n.sp_low
   pub sp_high_is : sp.high.raw ≡ n.sp_high
   pub out_low_is : out.low.raw ≡ n.out_low
   pub out_high_is : out.high.raw ≡ n.out_high

@@ -1,6 +1,6 @@
 -- The worked cases hold. Assumes nothing.
 use Rattle.std.proofs.Common.{◌≡◌, ℕ, true, false, pos, ◌+ℤ◌, ◌-ℤ◌, refl, ap, ◌∙◌, arith}
-use lib.Signed.{le_z}
+use Rattle.std.specs.Prelude.{int_le}
 use Rattle.std.proofs.lemmas.Int.{ints}
 use Rattle.std.proofs.lemmas.Bool.{cond-true, cond-false}
 use Rattle.signal.specs.declared.kinds.Value.{Value}
@@ -35,13 +35,13 @@ auto_out p c k i =
 module _ (from aim : Value) (travel : ℕ) where
   rests : travel ≡ 100 → aim.raw ≡ from.raw +ℤ pos 99 → stepped from travel aim ≡ from
   rests t e =
-      let up : le_z (from.raw +ℤ pos travel) aim.raw ≡ false = grind (arith, ints) in
-      let down : le_z aim.raw (from.raw -ℤ pos travel) ≡ false = grind (arith, ints) in
+      let up : int_le (from.raw +ℤ pos travel) aim.raw ≡ false = grind (arith, ints) in
+      let down : int_le aim.raw (from.raw -ℤ pos travel) ≡ false = grind (arith, ints) in
       cond-false _ _ _ up ∙ cond-false _ _ _ down
 
   raises : travel ≡ 100 → aim.raw ≡ from.raw +ℤ pos 100 → (stepped from travel aim).raw ≡ from.raw +ℤ pos 100
   raises t e =
-      let up : le_z (from.raw +ℤ pos travel) aim.raw ≡ true = grind (arith, ints) in
+      let up : int_le (from.raw +ℤ pos travel) aim.raw ≡ true = grind (arith, ints) in
       let low = aim.low in
       let high = aim.high in
       let same = in_range_same (from.raw +ℤ pos travel) (omega (arith, ints)) (omega (arith, ints)) in

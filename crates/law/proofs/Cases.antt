@@ -1,6 +1,6 @@
 -- The worked cases: a law that was just made is one record, and the rest computes. Assumes nothing.
 use Rattle.std.proofs.Common.{◌≡◌, ℕ, ℤ, pos, negsuc, ◌-ℤ◌, sym, refl, ap, ◌∙◌, subst, arith}
-use lib.IntN.{*ℤ-zero}
+use Rattle.std.proofs.Math.IntN.{*ℤ-zero}
 use Rattle.std.proofs.lemmas.Int.{ints}
 use Rattle.law.specs.GainBias.{FreshGainBias, gain_bias_model, gained_by}
 use Rattle.law.specs.Pi.{FreshPi, action_number, error_of}

@@ -1,6 +1,6 @@
 -- A gain times a number: how far it goes, and that widening both changes nothing. Assumes nothing.
 use Rattle.std.proofs.Common.{◌≡◌, ℕ, zero, suc, ◌+◌, ◌*◌, ◌^◌, ◌<◌, ◌≤◌, ℤ, pos, negsuc, ◌+ℤ◌, ◌*ℤ◌, neg_ℤ, sym, ap, ◌∙◌, subst, mul-le-mul, arith, w64, SFits, to_z, of_z}
-use lib.Signed.{mag}
+use Rattle.std.specs.Int.Signed.{mag}
 use Rattle.std.proofs.lemmas.Int.{ints, to_z-of_z, to_z_pos}
 
 mag_negative : (n : ℕ) → mag (neg_ℤ (pos n)) ≤ n

@@ -1,5 +1,5 @@
 -- Gains: which numbers are one. Assumes nothing.
---     GainNumber z    z can be a gain: 0 to 10,000 thousandths
+--     GainNumber z     z can be a gain: 0 to 10,000 thousandths
 --     GainFrom z r     z is taken as it is, or refused since it is out of range
 use Rattle.std.specs.Prelude.{◌≡◌, ℤ, pos, ◌≤ℤ◌, Ok, Err, Result}
 use Rattle.law.specs.Fault.{law_fault_number}

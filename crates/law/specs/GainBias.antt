@@ -1,7 +1,7 @@
 -- The gain and bias law. Assumes nothing.
 --     gain_bias_model       what it does, over its gain and its bias
 --     GainBiasFrom z r      the gain is taken as it is, or refused since it is out of range
---     FreshGainBias z s   s has this gain, and the bias that a start at 0, 0 and 0 sets
+--     FreshGainBias z s     s has this gain, and the bias that a start at 0, 0 and 0 sets
 --     gained_by s sp        the setpoint times the gain, rounded down
 use Rattle.std.specs.Prelude.{◌≡◌, ℤ, pos, ◌+ℤ◌, ◌-ℤ◌, ◌*ℤ◌, Ok, Err, Result}
 use Rattle.law.specs.Fault.{law_fault_number}

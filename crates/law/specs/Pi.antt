@@ -1,7 +1,7 @@
 -- The PI law. Assumes nothing.
 --     pi_model             what it does, over its numbers, the last error and the remainder
 --     PiFrom p i a r       the numbers are taken as they are, or refused since one is out of range
---     FreshPi p i a s     s has these numbers, and keeps what a start at 0, 0 and 0 leaves
+--     FreshPi p i a s      s has these numbers, and keeps what a start at 0, 0 and 0 leaves
 --     error_of a sp pv     the error: setpoint less process value, or the reverse
 --     sum_at s e           thousandths to add to the output at the error e: the gain P on the change of the error, the gain I
 --                          on the error, and the remainder

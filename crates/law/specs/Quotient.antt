@@ -1,6 +1,6 @@
 -- A number divided by 1,000 and rounded down, below zero too. Assumes nothing.
 --     Floored t q r      t is 1,000 times q and r over, with r from 0 to 999
---     OneQuotient       there is only one such q and r
+--     OneQuotient        there is only one such q and r
 --     whole_of t         that q: 0 at 999, -1 at -1
 --     rest_of t          that r: 999 at 999 and at -1
 use Rattle.std.specs.Prelude.{◌≡◌, ℕ, ◌-◌, ◌/◌, ◌%◌, ◌≤◌, ℤ, pos, negsuc, ◌+ℤ◌, ◌*ℤ◌}

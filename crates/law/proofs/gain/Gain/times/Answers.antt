@@ -1,10 +1,10 @@
 use Rattle.std.proofs.Common.{◌+◌, ◌*◌, ◌≤◌, ℤ, sym, subst, arith}
-use lib.Signed.{mag}
+use Rattle.std.specs.Int.Signed.{mag}
 use Rattle.law.proofs.Scaled.{scaled, scaled_bound, scaled_fits}
 use Rattle.law.proofs.gain.Gain.times.Goals as goal
 
-pub overflow-mul-result : goal.overflow-mul-result
-overflow-mul-result c = scaled_fits c.args.self.thousandths c.args.number (omega arith) c.ranges.number c.requires
+pub overflow_mul-result : goal.overflow_mul-result
+overflow_mul-result c = scaled_fits c.args.self.thousandths c.args.number (omega arith) c.ranges.number c.requires
 
 pub returns : goal.returns
 returns c =

@@ -5,4 +5,4 @@ use Rattle.law.proofs.Near.{pulled_same}
 use Rattle.law.proofs.gain_bias.GainBias.answer.Goals as goal
 
 pub returns : goal.returns
-returns c = pulled_same _ _ (gained_by c.args.self.now c.args.sp +ℤ c.args.self.now.bias) c.pulled-in.ensures (omega (arith, ints))
+returns c = pulled_same _ _ (gained_by c.args.self.now c.args.sp +ℤ c.args.self.now.bias) c.pulled_from.ensures (omega (arith, ints))

@@ -3,11 +3,11 @@ use Rattle.std.proofs.lemmas.Int.{ints}
 use Rattle.law.proofs.Scaled.{both_fit, scaled_same, sum_fits, summed}
 use Rattle.law.proofs.pi.Pi.sum.Goals as goal
 
-pub overflow-add-result : goal.overflow-add-result
-overflow-add-result c = both_fit c.times.result c.times-2.result c.times.ensures.fits c.times-2.ensures.fits
+pub overflow_add-result : goal.overflow_add-result
+overflow_add-result c = both_fit c.times.result c.times-2.result c.times.ensures.fits c.times-2.ensures.fits
 
-pub overflow-add-result-2 : goal.overflow-add-result-2
-overflow-add-result-2 c =
+pub overflow_add-result-2 : goal.overflow_add-result-2
+overflow_add-result-2 c =
     sum_fits c.times.result c.times-2.result c.times.ensures.fits c.times-2.ensures.fits c.args.self.now.rest (omega arith)
 
 pub returns : goal.returns
