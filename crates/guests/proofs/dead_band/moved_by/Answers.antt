@@ -4,4 +4,4 @@ use Rattle.law.proofs.Near.{pulled_same}
 use Rattle.guests.proofs.dead_band.moved_by.Goals as goal
 
 pub returns : goal.returns
-returns c = pulled_same _ _ (c.args.out.raw +ℤ c.args.error) c.pulled-in.ensures (omega (arith, ints))
+returns c = pulled_same _ _ (c.args.out.raw +ℤ c.args.error) c.pulled_from.ensures (omega (arith, ints))
