@@ -1,7 +1,7 @@
 -- Two records, or two lists of records, never have the same bytes. Assumes nothing.
 use Rattle.std.proofs.Common.{◌≡◌, ℕ, ◌/◌, ◌%◌, ◌<◌, ◌≤◌, Bool, true, ◌⊎◌, List, [], ◌∷◌, ◌++◌, length, ℤ, is_some, IfSome, Some, None, Option, sym, refl, ap, ◌∙◌, subst, inl, inr, arith, w32, SFits, to_z, of_z}
 use mir.Facts.{Fits-of_z}
-use Rattle.std.specs.List.{AllByRecursion as All}
+use Rattle.std.specs.List.{AllByRecursion}
 use Rattle.std.proofs.lemmas.List.{append_assoc, length-append}
 use Rattle.std.proofs.lemmas.Int.{to_z-of_z}
 use Rattle.std.proofs.lemmas.Bool.{false≢true, true≢false}
@@ -93,7 +93,7 @@ pub not_stuck : (r : Record) (s : List ℕ) → Stuck (record_bytes r ++ s) → 
 not_stuck r s (inl h) = let l = length-append (fields r) s in omega (arith, length_fields r)
 not_stuck r s (inr h) = omega (arith, map_small (is_some r.block) (is_some r.target) (is_some r.switch) (is_some r.input) (is_some r.setpoint) (is_some r.output) r.round)
 
-pub sheet_front : (rs qs : List Record) (s t : List ℕ) → All Sound rs → All Sound qs → Stuck s → Stuck t → sheet_bytes rs ++ s ≡ sheet_bytes qs ++ t → (rs ≡ qs) × (s ≡ t)
+pub sheet_front : (rs qs : List Record) (s t : List ℕ) → AllByRecursion Sound rs → AllByRecursion Sound qs → Stuck s → Stuck t → sheet_bytes rs ++ s ≡ sheet_bytes qs ++ t → (rs ≡ qs) × (s ≡ t)
 sheet_front [] [] s t _ _ _ _ e = (refl, e)
 sheet_front [] (q ∷ qs) s t _ _ h k e = absurd (not_stuck q (sheet_bytes qs ++ t) (subst Stuck (e ∙ append_assoc (record_bytes q) (sheet_bytes qs) t) h))
 sheet_front (r ∷ rs) [] s t _ _ h k e = absurd (not_stuck r (sheet_bytes rs ++ s) (subst Stuck (sym e ∙ append_assoc (record_bytes r) (sheet_bytes rs) s) k))

@@ -1,6 +1,6 @@
 -- A sheet reads one way only. Assumes nothing.
 use Rattle.std.proofs.Common.{◌≡◌, ℕ, ◌+◌, ◌<◌, ◌≤◌, cond, ltb, List, [], ◌∷◌, ◌++◌, length, drop, Ok, Err, sym, refl, ap, ◌∙◌, subst, inl, inr, arith}
-use Rattle.std.specs.List.{AllByRecursion as All}
+use Rattle.std.specs.List.{AllByRecursion}
 use Rattle.std.proofs.lemmas.List.{append-nil}
 use Rattle.std.proofs.lemmas.Bool.{cases_lt, cond_below, cond_above}
 use Rattle.sheet.specs.declared.record.Record.{Record}
@@ -19,12 +19,12 @@ ending p (b ∷ more) = cond (ltb (length more) (promised_length b)) (Err (CutSh
 -- a reading of a sheet that is not too long: records, and a rest that fixes the ending
 record Read (bs : List ℕ) (rs : List Record) (e : Ending) : Type 0 where
   rest : List ℕ
-  sound : All Sound rs
+  sound : AllByRecursion Sound rs
   stuck : Stuck rest
   front : bs ≡ sheet_bytes rs ++ rest
   ends : e ≡ ending (length (sheet_bytes rs)) rest
 
-read_seven : (bs : List ℕ) (rs : List Record) (rest : List ℕ) → All Sound rs → bs ≡ sheet_bytes rs ++ rest → Seventh rest → Read bs rs (Err (BitSeven (length (sheet_bytes rs))))
+read_seven : (bs : List ℕ) (rs : List Record) (rest : List ℕ) → AllByRecursion Sound rs → bs ≡ sheet_bytes rs ++ rest → Seventh rest → Read bs rs (Err (BitSeven (length (sheet_bytes rs))))
 read_seven bs rs [] s f h = absurd h
 read_seven bs rs (b ∷ more) s f h = record { rest = b ∷ more; sound = s; stuck = inr h.0; front = f; ends = cond_above (length more) (promised_length b) _ _ _ h.1 refl }
 
@@ -54,7 +54,7 @@ reads_once bs rs qs e f r q =
 abbrev Somehow : List ℕ → Type 0
 Somehow bs = (rs : List Record) × (e : Ending) × Reads bs rs e
 
-reads_rest : (bs : List ℕ) (rs : List Record) (rest : List ℕ) → NotTooLong bs → All Sound rs → Stuck rest → bs ≡ sheet_bytes rs ++ rest → Somehow bs
+reads_rest : (bs : List ℕ) (rs : List Record) (rest : List ℕ) → NotTooLong bs → AllByRecursion Sound rs → Stuck rest → bs ≡ sheet_bytes rs ++ rest → Somehow bs
 reads_rest bs rs [] few s k f = (rs, Ok tt, whole few s (f ∙ append-nil (sheet_bytes rs)))
 reads_rest bs rs (b ∷ more) few s k f =
     elim (cases_lt (length more) (promised_length b)) [
@@ -66,7 +66,7 @@ reads_rest bs rs (b ∷ more) few s k f =
     seven (inl c) h = absurd (omega arith)
     seven (inr c) h = c
 
-reads_somehow : (bs : List ℕ) → All (λ b. b < 256) bs → Somehow bs
+reads_somehow : (bs : List ℕ) → AllByRecursion (λ b. b < 256) bs → Somehow bs
 reads_somehow bs b =
     elim (cases_lt 65536 (length bs)) [
       | inl long ↦ ([], Err TooLong, too_long long)

@@ -1,6 +1,6 @@
 -- What the reading of a sheet has come to at a place. Assumes nothing.
 use Rattle.std.proofs.Common.{◌≡◌, ℕ, ◌+◌, ◌<◌, ◌≤◌, ◌⊎◌, List, [], ◌∷◌, ◌++◌, length, get_or, drop, Ok, Err, sym, refl, ap, ◌∙◌, subst, inl, inr, arith}
-use Rattle.std.specs.List.{AllByRecursion as All}
+use Rattle.std.specs.List.{AllByRecursion}
 use Rattle.std.proofs.lemmas.List.{append-nil, append_assoc, flat_map_more, drop_all, drop_more, length-append, length_push}
 use Rattle.std.proofs.ByRecursion.{All-push}
 use Rattle.sheet.specs.declared.record.Record.{Record}
@@ -13,7 +13,7 @@ use Rattle.sheet.specs.OneWay.{NotTooLong, Cut, Reads, whole, cut_short, bit_sev
 pub record Sofar (bs : List ℕ) (old new : List Record) (place : ℕ) : Type 0 where
   pub rs : List Record
   pub added : new ≡ old ++ rs
-  pub sound : All Sound rs
+  pub sound : AllByRecursion Sound rs
   pub front : bs ≡ sheet_bytes rs ++ drop place bs
   pub here : place ≡ length (sheet_bytes rs)
   pub fewer : length rs ≤ place

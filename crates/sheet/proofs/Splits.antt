@@ -1,7 +1,7 @@
 -- Every byte string is records and then something that no record begins. Assumes nothing.
 use Rattle.std.proofs.Common.{◌≡◌, ℕ, zero, suc, ◌+◌, ◌*◌, ◌%◌, ◌<◌, ◌≤◌, Bool, true, false, cond, List, [], ◌∷◌, ◌++◌, length, is_some, IfSome, Some, None, Option, sym, refl, ap, ◌∙◌, inl, inr, arith, w32, SFits, to_z}
 use mir.ValLaws.{to_z-Fits}
-use Rattle.std.specs.List.{AllByRecursion as All}
+use Rattle.std.specs.List.{AllByRecursion}
 use Rattle.std.proofs.lemmas.List.{append_assoc}
 use Rattle.std.proofs.lemmas.Bool.{cases_lt}
 use Rattle.sheet.specs.declared.record.Record.{Record}
@@ -11,7 +11,7 @@ use Rattle.sheet.proofs.Fronts.{number_of_bytes, six_fronts}
 use Rattle.sheet.proofs.Maps.{map_from_bits}
 
 abbrev Bytes : List ℕ → Type 0
-Bytes = All (λ b. b < 256)
+Bytes = AllByRecursion (λ b. b < 256)
 
 -- something of n bytes stands at the front of xs
 record Taken {X : Type 0} (bytes : X → List ℕ) (Fit : X → Type 0) (n : ℕ) (xs : List ℕ) : Type 0 where
@@ -138,7 +138,7 @@ module _ (m : ℕ) (xs : List ℕ) (h : m < 128) (l : promised_length m ≤ leng
 pub record Split (bs : List ℕ) : Type 0 where
   pub rs : List Record
   pub rest : List ℕ
-  pub sound : All Sound rs
+  pub sound : AllByRecursion Sound rs
   pub stuck : Stuck rest
   pub front : bs ≡ sheet_bytes rs ++ rest
 
@@ -163,5 +163,5 @@ split_within (suc n) (m ∷ xs) h b =
       ]
     ]
 
-pub split : (bs : List ℕ) → All (λ b. b < 256) bs → Split bs
+pub split : (bs : List ℕ) → AllByRecursion (λ b. b < 256) bs → Split bs
 split bs b = split_within (length bs) bs (omega arith) b

@@ -6,7 +6,7 @@
 --     RecordAt bs p r q   the record r stands at the place p of bs, and the next place is q
 --     BadAt bs p f        no record stands at the place p of bs, for the reason f
 use Rattle.std.specs.Prelude.{◌≡◌, ℕ, ◌+◌, ◌<◌, ◌≤◌, ◌⊎◌, List, [], ◌∷◌, ◌++◌, length, drop, Ok, Err, vec_items, vec_len, vec_capacity, Result, Vec}
-use Rattle.std.specs.List.{AllByRecursion as All}
+use Rattle.std.specs.List.{AllByRecursion}
 use Rattle.sheet.specs.declared.record.Record.{Record}
 use Rattle.sheet.specs.declared.record.SheetFault.{SheetFault}
 use Rattle.sheet.specs.declared.record.SheetFault.TheVariants.{CutShort, BitSeven, TooLong, Memory}
@@ -32,19 +32,19 @@ Ending = Result (Unit {0}) SheetFault
 
 pub data Reads (bs : List ℕ) : List Record → Ending → Type 0 where
   -- the records' bytes, and nothing more
-  whole : {rs : List Record} → NotTooLong bs → All Sound rs → bs ≡ sheet_bytes rs → Reads bs rs (Ok tt)
+  whole : {rs : List Record} → NotTooLong bs → AllByRecursion Sound rs → bs ≡ sheet_bytes rs → Reads bs rs (Ok tt)
   -- the records, and then one that ends too soon: refused at its bit map
-  cut_short : {rs : List Record} (b : ℕ) (more : List ℕ) → NotTooLong bs → All Sound rs → bs ≡ sheet_bytes rs ++ b ∷ more
+  cut_short : {rs : List Record} (b : ℕ) (more : List ℕ) → NotTooLong bs → AllByRecursion Sound rs → bs ≡ sheet_bytes rs ++ b ∷ more
       → Cut (b ∷ more) → Reads bs rs (Err (CutShort (length (sheet_bytes rs))))
   -- the records, and then one whose bit 7 stands: refused at its bit map
-  bit_seven : {rs : List Record} (rest : List ℕ) → NotTooLong bs → All Sound rs → bs ≡ sheet_bytes rs ++ rest
+  bit_seven : {rs : List Record} (rest : List ℕ) → NotTooLong bs → AllByRecursion Sound rs → bs ≡ sheet_bytes rs ++ rest
       → Seventh rest → Reads bs rs (Err (BitSeven (length (sheet_bytes rs))))
   -- more bytes than a sheet may have: nothing is read
   too_long : 65536 < length bs → Reads bs [] (Err TooLong)
 
 pub record Begins (bs : List ℕ) (rs : List Record) : Type 0 where
   pub fits : NotTooLong bs
-  pub sound : All Sound rs
+  pub sound : AllByRecursion Sound rs
   pub next : Record
   pub rest : List ℕ
   pub front : bs ≡ sheet_bytes rs ++ (record_bytes next ++ rest)
@@ -71,15 +71,15 @@ BadAt bs p Memory = ⊥
 
 pub record OneWay : Type 0 where
   -- every byte string is a sheet, or records and then one refusal at one place
-  pub every : (bs : List ℕ) → All (λ b. b < 256) bs → (rs : List Record) × (e : Ending) × Reads bs rs e
+  pub every : (bs : List ℕ) → AllByRecursion (λ b. b < 256) bs → (rs : List Record) × (e : Ending) × Reads bs rs e
   -- and it is so in one way
   pub one : (bs : List ℕ) (rs rs' : List Record) (e e' : Ending) → Reads bs rs e → Reads bs rs' e' → (rs ≡ rs') × (e ≡ e')
   -- what is written reads back as the same records
-  pub back : (rs : List Record) → All Sound rs → NotTooLong (sheet_bytes rs) → Reads (sheet_bytes rs) rs (Ok tt)
+  pub back : (rs : List Record) → AllByRecursion Sound rs → NotTooLong (sheet_bytes rs) → Reads (sheet_bytes rs) rs (Ok tt)
   -- what was read, written again, is the same bytes
   pub again : (bs : List ℕ) (rs : List Record) → Reads bs rs (Ok tt) → sheet_bytes rs ≡ bs
   -- two different lists of records never have the same bytes
-  pub apart : (rs rs' : List Record) → All Sound rs → All Sound rs' → sheet_bytes rs ≡ sheet_bytes rs' → rs ≡ rs'
+  pub apart : (rs rs' : List Record) → AllByRecursion Sound rs → AllByRecursion Sound rs' → sheet_bytes rs ≡ sheet_bytes rs' → rs ≡ rs'
   -- at one place stands one record
   pub one_record : (bs : List ℕ) (p : ℕ) (r r' : Record) (q q' : ℕ) → RecordAt bs p r q → RecordAt bs p r' q' → (r ≡ r') × (q ≡ q')
   -- and no record is refused
