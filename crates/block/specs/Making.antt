@@ -1,6 +1,6 @@
 -- Making a block: permitted and option bytes, the fresh state, and an end's faults. Assumes nothing.
 --     fresh_block st hides    a block as made: out of service and not connected, SP and OUT as near to 0 as their limits let them
---     ProperAround a b z     a and b are limits, and z lies inside them
+--     ProperAround a b z      a and b are limits, and z lies inside them
 --     PermittedFrom b r       r is what the byte b permits, or b is the byte of no permitted modes
 --     OptionsFrom b r         r are the options of the byte b, or b is the byte of no options
 use Rattle.std.specs.Prelude.{◌≡◌, ℕ, ◌+◌, ◌/◌, ◌%◌, Bool, true, false, cond, ◌&&◌, ℤ, pos, ◌≤ℤ◌, Some, None, Option, ◌==◌, ◌≢◌, nat_lt}

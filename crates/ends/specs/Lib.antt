@@ -1,9 +1,9 @@
--- The definitions that the contracts cite, by topic. Assumes nothing.
+-- The definitions that the contracts cite, and the lemmas that show what each end means, by topic. Assumes nothing.
 pub mod Round
 pub mod Analog
 pub mod Pulse
 pub mod Making
 pub mod Worked
-pub mod AnalogFacts
 pub mod Rounds
+pub mod AnalogFacts
 pub mod PulseFacts

@@ -3,7 +3,7 @@
 --     PulseFrom su p          p is the pulse end of the setup su as made
 --     AnalogGood su           an analog end is made of su; PulseGood likewise
 --     AnalogFault su f        it is refused for f, the fault of the lowest number; PulseFault likewise
---     GoodTime z             z lies from 1 to 1,000, as a fault time or a travel
+--     GoodTime z              z lies from 1 to 1,000, as a fault time or a travel
 --     fresh_analog l p time value action    an analog end as made; it takes an output
 --     fresh_pulse l p travel                a pulse end as made; it takes none, and hides its request
 --     end_settings l p out    the limits l for SP and for OUT, the permitted modes p, no input and no options

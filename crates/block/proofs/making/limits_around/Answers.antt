@@ -1,3 +1,4 @@
+-- What is made holds the three numbers as given, and the value lies inside the limits.
 use Rattle.std.proofs.Common.{refl, arith}
 use Rattle.std.proofs.lemmas.Int.{ints}
 use Rattle.block.proofs.making.limits_around.Goals as goal

@@ -1,3 +1,4 @@
+-- The sum in 64 bits is the sum that the clause names.
 use Rattle.std.proofs.Common.{◌+ℤ◌, arith}
 use Rattle.std.proofs.lemmas.Int.{ints}
 use Rattle.law.proofs.Near.{pulled_same}
