@@ -1,4 +1,4 @@
--- The definitions that the contracts cite, by topic. Assumes nothing.
+-- The definitions that the contracts cite, and the lemmas that show what a control block means, by topic. Assumes nothing.
 pub mod Steps
 pub mod Control
 pub mod Making

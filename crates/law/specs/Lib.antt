@@ -1,4 +1,4 @@
--- The definitions that the contracts cite, by topic. Assumes nothing.
+-- The definitions that the contracts cite, and the lemmas that show what each law means, by topic. Assumes nothing.
 pub mod Law
 pub mod Fault
 pub mod Quotient

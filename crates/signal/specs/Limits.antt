@@ -1,7 +1,7 @@
 -- Limits: which two numbers are limits, and the value nearest to another inside them. Assumes nothing.
 --     pulled l v          the value inside the limits l that is nearest to v
 --     Inside l v          v lies inside the limits l, its ends included
---     ProperLimits a b   a and b are values' numbers, and a is not above b
+--     ProperLimits a b    a and b are values' numbers, and a is not above b
 --     LimitsFrom a b r    the two are taken as they are, or refused since they are no limits
 use Rattle.std.specs.Prelude.{◌≡◌, ℕ, cond, ℤ, ◌≤ℤ◌, Ok, Err, Result, int_lt}
 use Rattle.signal.specs.Value.{WithinRange}

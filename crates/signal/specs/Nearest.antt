@@ -1,6 +1,6 @@
 -- The number nearest to another between two ends. Assumes nothing.
 --     Nearest low high v r     r is the number nearest to v from low to high
---     OneNearest              there is only one such number
+--     OneNearest               there is only one such number
 --     nearest_to low high v    that number
 use Rattle.std.specs.Prelude.{◌≡◌, cond, ◌⊎◌, ℤ, ◌≤ℤ◌, int_lt}
 

@@ -1,5 +1,5 @@
 -- Values, in thousandths of a percent of span: which numbers are one, and which value is nearest to a number. Assumes nothing.
---     WithinRange z    z lies in the range of values, -1,000,000 to 1,000,000
+--     WithinRange z     z lies in the range of values, -1,000,000 to 1,000,000
 --     ValueFrom z r     z is taken as it is, or refused since it is out of range
 --     in_range z        the number in the range that is nearest to z
 --     value_near z      the value of that number
