@@ -1,4 +1,4 @@
--- Only one number from low to high is nearest to v, and a number that was clamped first has the same one. Assumes nothing.
+-- Only one number from low to high is nearest to v, and a number that was narrowed to 32 bits first has the same one. Assumes nothing.
 use Rattle.std.proofs.Common.{◌≡◌, ◌⊎◌, ℤ, ◌≤ℤ◌, pos, negsuc, inl, inr, arith}
 use Rattle.std.proofs.lemmas.Int.{ints, clamps}
 use Rattle.std.specs.Int.{int_max, int_min}
@@ -18,8 +18,9 @@ pub one_nearest : OneNearest
 one_nearest low high v r s p q =
     between_both v r s (p.between s q.inside.0 q.inside.1) (q.between r p.inside.0 p.inside.1)
 
-pub clamped_first : (z : ℤ) → in_range (int_max (negsuc 999999) (int_min z (pos 1000000))) ≡ in_range z
-clamped_first z = grind (arith, ints, clamps)
+-- the ends of 32 bits lie outside the range of values
+pub narrowed_first : (z : ℤ) → in_range (int_max (negsuc 2147483647) (int_min z (pos 2147483647))) ≡ in_range z
+narrowed_first z = grind (arith, ints, clamps)
 
 side : (z x : ℤ) → negsuc 999999 ≤ℤ x → x ≤ℤ pos 1000000
     → ((z ≤ℤ in_range z) × (in_range z ≤ℤ x)) ⊎ ((x ≤ℤ in_range z) × (in_range z ≤ℤ z))

@@ -44,12 +44,12 @@ impl Value {
         Limits::RANGE.nearest(raw)
     }
 
-    // The number may be wider than a value: a law's sum is.
+    // The number may be wider than 32 bits: a law's sum is. It is narrowed here, and pulled by `pulled_in` alone.
     pub fn pulled_from(raw: i64) -> Value
         ensures nearest { Nearest (negsuc 999999) (pos 1000000) raw result.raw }
         ensures value { result ≡ value_near raw }
     {
-        Value::pulled_in(raw.clamp(LEAST as i64, GREATEST as i64) as i32)
+        Value::pulled_in(raw.clamp(i32::MIN as i64, i32::MAX as i64) as i32)
     }
 
     pub fn raw(self) -> i32

@@ -4,7 +4,7 @@ use Rattle.std.specs.Int.{int_max, int_min}
 use Rattle.signal.specs.Nearest.{Nearest}
 use Rattle.signal.specs.Value.{in_range}
 use Rattle.signal.specs.declared.kinds.Value.{Value}
-use Rattle.signal.proofs.Nearest.{clamped_first, in_range_nearest}
+use Rattle.signal.proofs.Nearest.{narrowed_first, in_range_nearest}
 use Rattle.signal.proofs.Same.{same_value}
 use Rattle.signal.proofs.kinds.Value.pulled_from.Goals as goal
 
@@ -12,8 +12,8 @@ number : (c : goal.After-pulled_in) → c.pulled_in.result.raw ≡ in_range c.ar
 number c =
     let k = c.clamp.result in
     let wide : to_z w32 (of_z w32 (to_z w64 (of_z w64 k))) ≡ k = omega (arith, ints) in
-    let held : k ≡ int_max (negsuc 999999) (int_min c.args.raw (pos 1000000)) = omega (arith, ints, clamps) in
-    ap (λ (v : Value). v.raw) c.pulled_in.ensures.value ∙ ap in_range (wide ∙ held) ∙ clamped_first c.args.raw
+    let held : k ≡ int_max (negsuc 2147483647) (int_min c.args.raw (pos 2147483647)) = omega (arith, ints, clamps) in
+    ap (λ (v : Value). v.raw) c.pulled_in.ensures.value ∙ ap in_range (wide ∙ held) ∙ narrowed_first c.args.raw
 
 pub returns-clause-nearest : goal.returns-clause-nearest
 returns-clause-nearest c =
