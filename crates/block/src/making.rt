@@ -10,9 +10,7 @@ pub fn limits_around(low: i32, high: i32, inside: i32) -> Result<(Limits, Value)
     ensures { MatchResult result (LimitsAround low high inside) (λ _. ProperAround low high inside → ⊥) }
 {
     let limits = Limits::new(low, high)?;
-    let Ok(value) = Value::new(inside) else {
-        return Err(LimitsFault::BadLimits);
-    };
+    let value = Value::try_from(inside)?;
     if limits.holds(value) {
         Ok((limits, value))
     } else {
@@ -59,7 +57,7 @@ impl Block {
     pub fn fresh(settings: Settings, hides_request: bool) -> Block
         ensures { result ≡ fresh_block settings hides_request }
     {
-        let zero = Value::pulled_in(0);
+        let zero = Value::ZERO;
         Block {
             settings,
             target: Mode::OutOfService,

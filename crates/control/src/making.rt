@@ -7,7 +7,7 @@ use crate::fault::ControlFault;
 use crate::kinds::{Control, ControlSetup};
 use block::{Block, EndFault, LowerEnd, Options, Permitted, Settings, limits_around};
 use law::{Law, LawFault};
-use signal::{Limits, Value};
+use signal::{Limits, OperatingPoint, Value};
 
 // The most blocks that a control block may stand over.
 const MOST_BELOW: u8 = 15;
@@ -57,7 +57,11 @@ impl<L: Law + Drop, E: LowerEnd + Drop> Control<L, E> {
             return Err(ControlFault::TooManyBlocks);
         }
         let block = Block::fresh(settings, false);
-        law.start(block.sp, block.pv, block.out);
+        law.start(OperatingPoint {
+            sp: block.sp,
+            pv: block.pv,
+            out: block.out,
+        });
         Ok(Control {
             block,
             track_value,

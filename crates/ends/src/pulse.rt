@@ -60,9 +60,9 @@ fn stepped(from: Value, travel: u16, aim: Value) -> Value
     let up = above(from, travel);
     let down = below(from, travel);
     if reaches(aim, up) {
-        Value::pulled_from(up)
+        Value::pulled_in(up)
     } else if falls_to(aim, down) {
-        Value::pulled_from(down)
+        Value::pulled_in(down)
     } else {
         from
     }

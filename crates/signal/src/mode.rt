@@ -2,6 +2,7 @@
 ghost use Rattle.std.specs.Prelude.{◌≡◌, Some, None, MatchResult};
 ghost use Rattle.signal.specs.Mode.{mode_byte, mode_word, mode_shows, target_fault_number, TargetFrom, target_of};
 
+use crate::numbered::Numbered;
 use crate::status::Status;
 
 #[derive(Clone, Copy, Debug, PartialEq, Eq)]
@@ -21,7 +22,7 @@ pub enum LoCause {
     Fault,
 }
 
-// Why a byte is no target. A number, once given out, keeps its meaning.
+// Why a byte is no target.
 #[derive(Clone, Copy, Debug, PartialEq, Eq)]
 pub enum TargetFault {
     NotATarget = 3,
@@ -42,10 +43,10 @@ const MODE_SHOWS: [[Status; 2]; 6] = [
     [Status::LINKED, Status::LINKED],
 ];
 
-impl TargetFault {
-    pub fn number(self) -> u8
-        ensures { result ≡ target_fault_number self }
-    {
+impl Numbered for TargetFault {
+    ghost number_of = { target_fault_number };
+
+    fn number(self) -> u8 {
         self as u8
     }
 }
@@ -71,7 +72,7 @@ impl Mode {
             Mode::Auto => target == Mode::Cas,
             _ => false,
         };
-        MODE_SHOWS[self as usize][second as usize]
+        MODE_SHOWS[self as usize][usize::from(second)]
     }
 
     // IMAN and LO are never asked for: a block comes into them by itself.
@@ -79,11 +80,9 @@ impl Mode {
         ensures from { TargetFrom byte result }
         ensures value { MatchResult result (λ m. target_of byte ≡ Some m) (λ _. target_of byte ≡ None) }
     {
-        for mode in [Mode::OutOfService, Mode::Man, Mode::Auto, Mode::Cas] {
-            if byte == mode.byte() {
-                return Ok(mode);
-            }
-        }
-        Err(TargetFault::NotATarget)
+        [Mode::OutOfService, Mode::Man, Mode::Auto, Mode::Cas]
+            .into_iter()
+            .find(|mode| mode.byte() == byte)
+            .ok_or(TargetFault::NotATarget)
     }
 }
