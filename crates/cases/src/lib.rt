@@ -157,6 +157,21 @@ mod tests {
         }
     }
 
+    // A sum pulled in: a number of 64 bits, and the value's.
+    static PULLED: [(i64, i32); 4] = [
+        (1_000_001, 1_000_000),
+        (-1_000_001, -1_000_000),
+        (4_294_967_297, 1_000_000),
+        (-7, -7),
+    ];
+
+    #[test]
+    fn pulled(rt: HostRuntime) {
+        for (sum, raw) in PULLED {
+            assert_eq!(rt; Value::pulled_in(sum).raw(), raw);
+        }
+    }
+
     // Bytes, a place, and the number and place of the refusal that comes there.
     static BAD_RECORDS: [(&'static [u8], usize, u8, usize); 7] = [
         (b"", 0, 20, 0),

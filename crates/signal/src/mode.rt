@@ -15,7 +15,7 @@ pub enum Mode {
     Cas,
 }
 
-// What brought a block into LO.
+// What brought a block into LO. It stands beside the mode and not inside it, since the tables are indexed by the mode.
 #[derive(Clone, Copy, Debug, PartialEq, Eq)]
 pub enum LoCause {
     Switch,
@@ -28,7 +28,7 @@ pub enum TargetFault {
     NotATarget = 3,
 }
 
-// The tables stand in the order of the modes.
+// The tables stand in the order of the modes. A word is a byte string, since it goes into a line of bytes.
 const MODE_BYTES: [u8; 6] = [0x80, 0x40, 0x20, 0x10, 0x08, 0x04];
 
 const MODE_WORDS: [&'static [u8]; 6] = [b"OS", b"IMAN", b"LO", b"MAN", b"AUTO", b"CAS"];
@@ -75,7 +75,8 @@ impl Mode {
         MODE_SHOWS[self as usize][usize::from(second)]
     }
 
-    // IMAN and LO are never asked for: a block comes into them by itself.
+    // IMAN and LO are never asked for: a block comes into them by itself. It is no `TryFrom`: a byte may also be that of any
+    // mode, or of several, and the name says which is meant.
     pub fn from_target(byte: u8) -> Result<Mode, TargetFault>
         ensures from { TargetFrom byte result }
         ensures value { MatchResult result (λ m. target_of byte ≡ Some m) (λ _. target_of byte ≡ None) }

@@ -20,7 +20,8 @@ pub enum Quality {
     GoodCascade,
 }
 
-// A status byte in parts: 2 bits of quality, 4 of sub-status, 2 of limits.
+// A status byte in parts: 2 bits of quality, 4 of sub-status, 2 of limits. The quality is a number and no `Quality`, since
+// any three bytes are parts: joining names the first that is too wide.
 #[derive(Clone, Copy, Debug, PartialEq, Eq)]
 pub struct Parts {
     pub quality: u8,
