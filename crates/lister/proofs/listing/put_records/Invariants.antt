@@ -4,7 +4,7 @@ use Rattle.lister.specs.Listing.{lines_from}
 use Rattle.lister.proofs.Pages.{Part}
 use Rattle.lister.proofs.listing.put_records.Given as goal
 
-abbrev pub invariant-loop-item : goal.invariant-loop-item
-invariant-loop-item l =
-    Part l.initial.page l.page (lines_from l.place (drop l.item-index l.records)) (lines_from 0 l.records)
-    × (l.place + length (sheet_bytes (drop l.item-index l.records)) ≡ length (sheet_bytes l.records))
+abbrev pub invariant-loop-record : goal.invariant-loop-record
+invariant-loop-record l =
+    Part l.initial.out l.out (lines_from l.place (drop l.record-index l.records)) (lines_from 0 l.records)
+    × (l.place + length (sheet_bytes (drop l.record-index l.records)) ≡ length (sheet_bytes l.records))
