@@ -17,7 +17,7 @@ pub fn put_number<N: Integer>(out: &mut Vec<u8>, n: N) -> Result<(), AllocError>
     out.extend_from_slice(Buffer::new().format(n).as_bytes())
 }
 
-// The hexadecimal digit of a number below 16.
+// The hexadecimal digit of a number below 16. The kit's `hex` writes lower case.
 fn hex_digit(d: u8) -> u8
     requires { d < 16 }
     ensures { result ≡ digit_glyph true d }
@@ -73,6 +73,7 @@ impl Text for &[u8] {
     }
 }
 
+// A fixed text as `b" "` is an array, and in a pair it is not taken for a slice.
 impl<const N: usize> Text for &[u8; N] {
     ghost text = { λ x. x.now };
 

@@ -109,6 +109,7 @@ impl Field for Input {
 }
 
 // The field at the front where its bit stands, and what follows it.
+// Whether it stands is asked at the call: a bit map and a number of a bit would be a parameter more, and a `requires`.
 pub fn take_field<F: Field>(there: bool, bytes: &[u8]) -> Option<(Option<F>, &[u8])>
     ensures { MatchOption result (length bytes.now < (if there then F.WIDTH else 0)) (λ x. (is_some x.0 ≡ there) × (bytes.now ≡ field F.wire x.0 ++ x.1.now) × IfSome x.0 F.fits) }
 {

@@ -65,14 +65,13 @@ impl<'a> Sheet<'a> {
     fn record(&self, place: usize) -> Result<(Record, usize), SheetFault>
         ensures { MatchResult result (λ x. RecordAt self.now.bytes.now place x.0 x.1) (BadAt self.now.bytes.now place) }
     {
-        if place >= self.bytes.len() {
-            return Err(SheetFault::CutShort(place));
-        }
-        let map = self.bytes[place];
-        let Some((record, rest)) = take_fields(map, &self.bytes[place + 1..]) else {
+        let Some([map, behind @ ..]) = self.bytes.get(place..) else {
             return Err(SheetFault::CutShort(place));
         };
-        if map >= 128 {
+        let Some((record, rest)) = take_fields(*map, behind) else {
+            return Err(SheetFault::CutShort(place));
+        };
+        if *map >= 128 {
             return Err(SheetFault::BitSeven(place));
         }
         Ok((record, self.bytes.len() - rest.len()))
