@@ -1,14 +1,13 @@
 // What the lister prints: a line for each record, and one for the refusal that ends a sheet.
 // `write!` is not used: its contract says nothing of room.
-ghost use Rattle.std.specs.Prelude.{◌≡◌, ◌≤◌, true, [], length, is_ok, vec_capacity, IsOkUnless};
+ghost use Rattle.std.specs.Prelude.{◌≡◌, ℕ, ◌≤◌, true, List, [], ◌++◌, length, is_ok, vec_capacity, IsOkUnless};
 ghost use Rattle.std.specs.List.{flat_map};
-ghost use Rattle.line.specs.Wrote.{Wrote};
 ghost use Rattle.signal.specs.Codes.{code_name};
 ghost use Rattle.sheet.specs.Bytes.{sheet_bytes};
 ghost use Rattle.sheet.specs.Calls.{calls_of};
 ghost use Rattle.sheet.specs.declared.record.Call.TheVariants.{Input};
 ghost use Rattle.sheet.specs.declared.record.SheetFault.TheVariants.{Memory};
-ghost use Rattle.lister.specs.Listing.{target_text, parts_text, named, status_text, call_text, call_value, record_line, lines_from, end_line, listing};
+ghost use Rattle.lister.specs.Listing.{target_text, parts_text, named, status_text, call_text, call_value, record_line, lines_from, end_line};
 ghost use Rattle.lister.specs.Page.{Listed, Roomy};
 
 use line::{Hex, Number, Text};
@@ -99,6 +98,7 @@ impl Text for Value {
             Call::Target(byte) => (b" ", Target(byte)).put(out),
             Call::Switch(byte) => (b" ", Number(byte)).put(out),
             Call::Input(input) => Given(input).put(out),
+            // one arm for these two gets no proof
             Call::Setpoint(value) => (b" ", Number(value)).put(out),
             Call::Output(value) => (b" ", Number(value)).put(out),
             Call::Round => Ok(()),
@@ -169,28 +169,25 @@ impl Text for End {
     }
 }
 
-fn put_records(out: &mut Vec<u8>, records: &[Record]) -> Result<(), AllocError>
-    requires { length (sheet_bytes records.now) ≤ 65536 }
-    ensures { Wrote out.old out.new result (lines_from 0 records.now) }
-{
-    let mut place = 0;
-    for record in records {
-        Line { place, record }.put(out)?;
-        place += record.len();
-    }
-    Ok(())
+// The lines of a sheet's records.
+#[derive(Clone, Copy)]
+struct Lines<'a> {
+    records: &'a [Record],
+    ghost few: { length (sheet_bytes records.now) ≤ 65536 },
 }
 
-fn put_sheet(
-    out: &mut Vec<u8>,
-    records: &[Record],
-    end: Result<(), SheetFault>,
-) -> Result<(), AllocError>
-    requires { length (sheet_bytes records.now) ≤ 65536 }
-    ensures { Wrote out.old out.new result (listing records.now end) }
-{
-    put_records(out, records)?;
-    End(end).put(out)
+impl Text for Lines<'_> {
+    ghost text = { λ l. lines_from 0 l.records.now };
+
+    fn put(self, out: &mut Vec<u8>) -> Result<(), AllocError> {
+        // With a `scan` it does not close that the next place fits.
+        let mut place = 0;
+        for record in self.records {
+            Line { place, record }.put(out)?;
+            place += record.len();
+        }
+        Ok(())
+    }
 }
 
 // Writes what is on a sheet, record by record, up to its end or to the record that is refused.
@@ -202,12 +199,16 @@ pub fn list_sheet(
 ) -> Result<(), SheetFault>
     ensures listed { is_ok result ≡ true → Listed bytes.now out.old out.new }
     ensures memory { IsOkUnless result Memory }
+    ensures kept { (part : List ℕ) × (out.new.items ≡ out.old.items ++ part) }
     ensures roomy { Roomy bytes.now (vec_capacity records.old) out.old → is_ok result ≡ true }
     ensures emptied { records.new.items ≡ [] }
 {
     records.clear();
     let end = read_sheet(bytes, records);
-    let done = put_sheet(out, records.as_slice(), end);
+    let lines = Lines {
+        records: records.as_slice(),
+    };
+    let done = (lines, End(end)).put(out);
     records.clear();
     done?;
     match end {

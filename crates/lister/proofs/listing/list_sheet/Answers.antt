@@ -14,7 +14,7 @@ returns-in_err-done-clause-roomy c k =
     let full = λ (m : end ≡ Err Memory). (let z : vec_capacity c.args.records.now ≤ length r.0 = omega (arith, c.read_sheet-end.ensures.full m, c.clear.ensures.capacity, c.read_sheet-end.new.records.ok.0) in z) in
     let room = k.for_text r.0 end (reads_whole c.args.bytes.now r.0 end (vec_capacity c.args.records.now) r.2 full k.for_records) in
     let text = ap (λ t. length (listing t end)) (c.as_slice.ensures.value ∙ same) in
-    absurd (both_ways _ (ap is_ok c.in_err-done.was) (c.put_sheet-done.ensures.roomy (omega arith)))
+    absurd (both_ways _ (ap is_ok c.in_err-done.was) (c.put-done.ensures.roomy (omega arith)))
 
 pub returns-in-Err-Memory-clause-roomy : goal.returns-in-Err-Memory-clause-roomy
 returns-in-Err-Memory-clause-roomy c k =
