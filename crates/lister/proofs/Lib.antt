@@ -1,4 +1,3 @@
 mod Lines
 mod Pages
-mod Targets
 mod Whole

@@ -1,52 +1,48 @@
--- Texts written on a page, one behind the other. Assumes nothing.
-use Rattle.std.proofs.Common.{◌≡◌, ℕ, List, [], ◌++◌, length, vec_items, sym, ap, ◌∙◌, subst, append_assoc, append-nil, arith}
+-- Texts written one behind the other. Assumes nothing.
+use Rattle.std.proofs.Common.{◌≡◌, ℕ, false, List, [], ◌++◌, length, is_ok, Ok, Result, Vec, vec_items, sym, ap, subst, ◌∙◌, append_assoc, append-nil, arith, refl}
 use Rattle.std.proofs.lemmas.List.{length-append}
-use Rattle.lister.specs.Page.{Wrote}
-use Rattle.lister.specs.declared.page.Page.{Page}
+use Rattle.std.proofs.lemmas.Bool.{both_ways}
+use Rattle.std.specs.declared.alloc.AllocError.{AllocError}
+use Rattle.line.specs.Wrote.{Wrote}
 
-pub none : (p : Page) → Wrote p p []
-none p = record { added = λ h. (h, sym (append-nil (vec_items p.text))); roomy = λ h _. h; grows = omega arith }
+none : {Z : Type 0} (p : Vec ℕ Z) → Wrote {X = Unit {0}} {E = AllocError} p p (Ok tt) []
+none p = record { added = λ _. sym (append-nil (vec_items p)); kept = ([], sym (append-nil (vec_items p))); roomy = λ _. refl; grows = omega arith }
 
-pub as_text : (p q : Page) (a b : List ℕ) → Wrote p q a → a ≡ b → Wrote p q b
-as_text p q a b w e = subst (Wrote p q) e w
+module _ {Z : Type 0} (p q r : Vec ℕ Z) (s : Result (Unit {0}) AllocError) (a b : List ℕ) where
+  behind : Wrote {X = Unit {0}} {E = AllocError} p q (Ok tt) a → Wrote q r s b → Wrote p r s (a ++ b)
+  behind f g =
+      let e = f.added refl in
+      let here = ap (λ t. t ++ b) e ∙ append_assoc (vec_items p) a b in
+      record {
+        added = λ h. g.added h ∙ here;
+        kept = (a ++ g.kept.0, g.kept.1 ∙ ap (λ t. t ++ g.kept.0) e ∙ append_assoc (vec_items p) a g.kept.0);
+        roomy = λ h. (let l = length-append a b in let n = ap length e ∙ length-append (vec_items p) a in g.roomy (omega (arith, p.ok.0, q.ok.0, f.grows)));
+        grows = omega (arith, f.grows, g.grows);
+      }
 
-pub two : (p q r : Page) (a b : List ℕ) → Wrote p q a → Wrote q r b → Wrote p r (a ++ b)
-two p q r a b f g =
-    record {
-      added = λ h. (let y = g.added h in let x = f.added y.0 in (x.0, y.1 ∙ ap (λ t. t ++ b) x.1 ∙ append_assoc (vec_items p.text) a b));
-      roomy = λ h k.
-          (let l = length-append a b in
-          let m = f.roomy h (omega arith) in
-          let n = ap length (f.added m).1 ∙ length-append (vec_items p.text) a in
-          g.roomy m (omega (arith, p.text.ok.0, q.text.ok.0, f.grows)));
-      grows = omega (arith, f.grows, g.grows);
-    }
+  -- a text whose first part found no memory
+  stopped : is_ok s ≡ false → Wrote p r s a → Wrote p r s (a ++ b)
+  stopped h f =
+      record {
+        added = λ k. absurd (both_ways _ h k);
+        kept = f.kept;
+        roomy = λ k. f.roomy (omega (arith, length-append a b));
+        grows = f.grows;
+      }
 
-pub three : (p q r s : Page) (a b c : List ℕ) → Wrote p q a → Wrote q r b → Wrote r s c → Wrote p s (a ++ (b ++ c))
-three p q r s a b c f g h = two p q s a (b ++ c) f (two q r s b c g h)
+-- who writes what is left behind q has written the whole behind p
+abbrev pub Part : {Z : Type 0} → Vec ℕ Z → Vec ℕ Z → List ℕ → List ℕ → Type 0
+Part {Z} p q left whole = (r : Vec ℕ Z) (s : Result (Unit {0}) AllocError) → Wrote q r s left → Wrote p r s whole
 
-pub four : (p q r s t : Page) (a b c d : List ℕ) → Wrote p q a → Wrote q r b → Wrote r s c → Wrote s t d → Wrote p t (a ++ (b ++ (c ++ d)))
-four p q r s t a b c d f g h i = two p q t a (b ++ (c ++ d)) f (three q r s t b c d g h i)
+module _ {Z : Type 0} (p q r : Vec ℕ Z) (left more whole : List ℕ) where
+  pub part_none : left ≡ whole → Part p p left whole
+  part_none e r s w = subst (Wrote p r s) e w
 
-pub five : (p q r s t u : Page) (a b c d e : List ℕ) → Wrote p q a → Wrote q r b → Wrote r s c → Wrote s t d → Wrote t u e → Wrote p u (a ++ (b ++ (c ++ (d ++ e))))
-five p q r s t u a b c d e f g h i j = two p q u a (b ++ (c ++ (d ++ e))) f (four q r s t u b c d e g h i j)
+  pub part_more : (text : List ℕ) → left ≡ text ++ more → Part p q left whole → Wrote {X = Unit {0}} {E = AllocError} q r (Ok tt) text → Part p r more whole
+  part_more text e k f v s w = k v s (subst (Wrote q v s) (sym e) (behind q r v s text more f w))
 
--- q has what p has and a part of whole; left is what is still to come
-pub record Part (p q : Page) (left whole : List ℕ) : Type 0 where
-  pub done : List ℕ
-  pub wrote : Wrote p q done
-  pub splits : done ++ left ≡ whole
+  pub part_stop : (text : List ℕ) (s : Result (Unit {0}) AllocError) → left ≡ text ++ more → Part p q left whole → is_ok s ≡ false → Wrote q r s text → Wrote p r s whole
+  part_stop text s e k h f = k r s (subst (Wrote q r s) (sym e) (stopped q r r s text more h f))
 
-pub part_none : (p : Page) (left whole : List ℕ) → left ≡ whole → Part p p left whole
-part_none p left whole e = record { done = []; wrote = none p; splits = e }
-
-pub part_more : (p q r : Page) (left text more whole : List ℕ) → left ≡ text ++ more → Part p q left whole → Wrote q r text → Part p r more whole
-part_more p q r left text more whole e s w =
-    record {
-      done = s.done ++ text;
-      wrote = two p q r s.done text s.wrote w;
-      splits = append_assoc s.done text more ∙ ap (λ t. s.done ++ t) (sym e) ∙ s.splits;
-    }
-
-pub part_all : (p q : Page) (left whole : List ℕ) → left ≡ [] → Part p q left whole → Wrote p q whole
-part_all p q left whole e s = as_text p q s.done whole s.wrote (sym (append-nil s.done) ∙ ap (λ t. s.done ++ t) (sym e) ∙ s.splits)
+  pub part_all : left ≡ [] → Part p q left whole → Wrote {X = Unit {0}} {E = AllocError} p q (Ok tt) whole
+  part_all e k = k q (Ok tt) (subst (Wrote q q (Ok tt)) (sym e) (none q))

@@ -7,12 +7,11 @@ ghost use Rattle.sheet.specs.declared.record.Record.{Record};
 ghost use Rattle.lister.specs.Listing.{listing};
 
 mod listing;
-mod page;
 
 use listing::list_sheet;
-use page::Page;
 use sheet::read::MAX_SHEET;
-use std::alloc::{AllocError, Global};
+use sheet::record::SheetFault;
+use std::alloc::Global;
 use std::io;
 use std::io::{Read, Write};
 
@@ -24,27 +23,21 @@ fn read_input<R: Read + Drop>(from: R, heap: Global) -> io::Result<Vec<u8>> {
 }
 
 // The listing of a sheet.
-fn listed(bytes: &[u8], heap: Global) -> Result<Vec<u8>, AllocError>
+fn listed(bytes: &[u8], heap: Global) -> Result<Vec<u8>, SheetFault>
     ensures { IfOk result (λ v. (rs : List Record) (e : Ending) → Reads bytes.now rs e → v.items ≡ listing rs e) }
 {
     let mut records = Vec::new(heap);
-    let mut page = Page {
-        text: Vec::new(heap),
-        whole: true,
-    };
-    list_sheet(bytes, &mut records, &mut page);
-    if page.whole {
-        Ok(page.text)
-    } else {
-        Err(AllocError)
-    }
+    let mut text = Vec::new(heap);
+    list_sheet(bytes, &mut records, &mut text)?;
+    Ok(text)
 }
 
-fn main(rt: HostRuntime) -> io::Result<()> {
+fn main(rt: HostRuntime) -> anyhow::Result<()> {
     let heap = rt.alloc();
     let bytes = read_input(rt.stdin(), heap)?;
     let text = listed(bytes.as_slice(), heap)?;
-    rt.stdout().write_all(text.as_slice())
+    rt.stdout().write_all(text.as_slice())?;
+    Ok(())
 }
 
 #[cfg(test)]

@@ -50,13 +50,7 @@ cases_unit (Some x) = tt
 same_record : (x y : Record) → x.block ≡ y.block → x.target ≡ y.target → x.switch ≡ y.switch → x.input ≡ y.input → x.setpoint ≡ y.setpoint
     → x.output ≡ y.output → x.round ≡ y.round → x ≡ y
 same_record x y b t s i p o r =
-    ap (λ v. record { block = v; target = x.target; switch = x.switch; input = x.input; setpoint = x.setpoint; output = x.output; round = x.round }) b
-    ∙ ap (λ v. record { block = y.block; target = v; switch = x.switch; input = x.input; setpoint = x.setpoint; output = x.output; round = x.round }) t
-    ∙ ap (λ v. record { block = y.block; target = y.target; switch = v; input = x.input; setpoint = x.setpoint; output = x.output; round = x.round }) s
-    ∙ ap (λ v. record { block = y.block; target = y.target; switch = y.switch; input = v; setpoint = x.setpoint; output = x.output; round = x.round }) i
-    ∙ ap (λ v. record { block = y.block; target = y.target; switch = y.switch; input = y.input; setpoint = v; output = x.output; round = x.round }) p
-    ∙ ap (λ v. record { block = y.block; target = y.target; switch = y.switch; input = y.input; setpoint = y.setpoint; output = v; round = x.round }) o
-    ∙ ap (λ v. record { block = y.block; target = y.target; switch = y.switch; input = y.input; setpoint = y.setpoint; output = y.output; round = v }) r
+    let e : ◌≡◌ {A = Record} (record { block = x.block; target = x.target; switch = x.switch; input = x.input; setpoint = x.setpoint; output = x.output; round = x.round }) (record { block = y.block; target = y.target; switch = y.switch; input = y.input; setpoint = y.setpoint; output = y.output; round = y.round }) = cc in e
 
 -- a function of the bits, at those of a record
 abbrev of_bits : (Bool → Bool → Bool → Bool → Bool → Bool → Bool → Bool) → Record → Bool

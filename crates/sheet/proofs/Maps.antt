@@ -62,10 +62,11 @@ pub stands_map : (k : ℕ) (f : Bits) → all_bits (λ b t s i p o r. same (stan
     → (b t s i p o r : Bool) → stands k (map_of b t s i p o r) ≡ f b t s i p o r
 stands_map k f e b t s i p o r = same_true _ _ (all_bits_at (λ b t s i p o r. same (stands k (map_of b t s i p o r)) (f b t s i p o r)) e b t s i p o r)
 
-abbrev sizes : Bool → Bool → Bool → Bool → Bool → Bool → ℕ
+-- how many bytes the fields take that are there
+abbrev pub sizes : Bool → Bool → Bool → Bool → Bool → Bool → ℕ
 sizes b t s i p o = cond b 1 0 + cond t 1 0 + cond s 1 0 + cond i 5 0 + cond p 4 0 + cond o 4 0
 
-pub promised_length_map : (b t s i p o r : Bool) → promised_length (map_of b t s i p o r) ≡ cond b 1 0 + cond t 1 0 + cond s 1 0 + cond i 5 0 + cond p 4 0 + cond o 4 0
+pub promised_length_map : (b t s i p o r : Bool) → promised_length (map_of b t s i p o r) ≡ sizes b t s i p o
 promised_length_map b t s i p o r = eqb-true _ _ (all_bits_at (λ b t s i p o r. eqb (promised_length (map_of b t s i p o r)) (sizes b t s i p o)) refl b t s i p o r)
 
 pub map_small : (b t s i p o r : Bool) → map_of b t s i p o r < 128

@@ -34,12 +34,6 @@ input_field = field input_bytes
 abbrev pub fields : Record → List ℕ
 fields r = byte_field r.block ++ (byte_field r.target ++ (byte_field r.switch ++ (input_field r.input ++ (number_field r.setpoint ++ number_field r.output))))
 
--- how many bytes these are
-abbrev pub fields_size : Record → ℕ
-fields_size r =
-    cond (is_some r.block) 1 0 + cond (is_some r.target) 1 0 + cond (is_some r.switch) 1 0
-    + cond (is_some r.input) 5 0 + cond (is_some r.setpoint) 4 0 + cond (is_some r.output) 4 0
-
 -- bit 0 block, 1 target, 2 switch, 3 input, 4 setpoint, 5 output, 6 round
 abbrev pub map_of : Bool → Bool → Bool → Bool → Bool → Bool → Bool → ℕ
 map_of b t s i p o r = cond b 1 0 + cond t 2 0 + cond s 4 0 + cond i 8 0 + cond p 16 0 + cond o 32 0 + cond r 64 0

@@ -5,6 +5,7 @@ ghost use Rattle.sheet.specs.Calls.{calls_of, calls_left, call_word};
 ghost use Rattle.std.specs.Iterator.{at_most};
 
 use crate::record::{Call, Record};
+use std::mem;
 
 // The calls of a record that are still to come.
 #[derive(Clone, Copy)]
@@ -36,31 +37,22 @@ impl Iterator for Calls {
     ghost remaining = { λ s. at_most (length (calls_left s)) };
 
     fn next(&mut self) -> Option<Call> {
-        if let Some(byte) = self.rest.target {
-            self.rest.target = None;
+        if let Some(byte) = self.rest.target.take() {
             return Some(Call::Target(byte));
         }
-        if let Some(byte) = self.rest.switch {
-            self.rest.switch = None;
+        if let Some(byte) = self.rest.switch.take() {
             return Some(Call::Switch(byte));
         }
-        if let Some(input) = self.rest.input {
-            self.rest.input = None;
+        if let Some(input) = self.rest.input.take() {
             return Some(Call::Input(input));
         }
-        if let Some(value) = self.rest.setpoint {
-            self.rest.setpoint = None;
+        if let Some(value) = self.rest.setpoint.take() {
             return Some(Call::Setpoint(value));
         }
-        if let Some(value) = self.rest.output {
-            self.rest.output = None;
+        if let Some(value) = self.rest.output.take() {
             return Some(Call::Output(value));
         }
-        if self.rest.round {
-            self.rest.round = false;
-            return Some(Call::Round);
-        }
-        None
+        mem::take(&mut self.rest.round).then_some(Call::Round)
     }
 }
 

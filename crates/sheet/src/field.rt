@@ -8,32 +8,37 @@ use crate::record::Input;
 use signal::status::Status;
 use std::alloc::AllocError;
 
-pub trait Field: Sized {
+pub trait Field: Copy {
     ghost wire: { Self → List ℕ };
 
-    ghost width: { ℕ };
+    // How many bytes the field takes.
+    const WIDTH: usize;
+
+    ghost WIDTH: { ℕ };
 
     // what holds of each such field that a program holds
     ghost fits: { Self → Type 0 };
 
     // The field at the front of `bytes` and what follows it; none where they are too few.
     fn take(bytes: &[u8]) -> Option<(Self, &[u8])>
-        ensures { MatchOption result (length bytes.now < width) (λ x. (bytes.now ≡ wire x.0 ++ x.1.now) × fits x.0) };
+        ensures { MatchOption result (length bytes.now < WIDTH) (λ x. (bytes.now ≡ wire x.0 ++ x.1.now) × fits x.0) };
 
     // Writes the field behind what `out` holds, or nothing of it where memory is wanting.
     fn put(self, out: &mut Vec<u8>) -> Result<(), AllocError>
         ensures items { out.new.items ≡ (if is_ok result then out.old.items ++ wire self else out.old.items) }
-        ensures len { vec_len out.new ≡ (if is_ok result then vec_len out.old + width else vec_len out.old) }
+        ensures len { vec_len out.new ≡ (if is_ok result then vec_len out.old + WIDTH else vec_len out.old) }
         ensures capacity { vec_capacity out.old ≤ vec_capacity out.new }
-        ensures succeeds { vec_len out.old + width ≤ vec_capacity out.old → is_ok result ≡ true };
+        ensures succeeds { vec_len out.old + WIDTH ≤ vec_capacity out.old → is_ok result ≡ true };
 
-    ghost sized: { (x : Self) → length (wire x) ≡ width };
+    ghost sized: { (x : Self) → length (wire x) ≡ WIDTH };
 }
 
 impl Field for u8 {
     ghost wire = { λ b. b ∷ [] };
 
-    ghost width = { 1 };
+    const WIDTH: usize = 1;
+
+    ghost WIDTH = { 1 };
 
     ghost fits = { λ _. Unit {0} };
 
@@ -54,7 +59,9 @@ impl Field for u8 {
 impl Field for i32 {
     ghost wire = { number_bytes };
 
-    ghost width = { 4 };
+    const WIDTH: usize = 4;
+
+    ghost WIDTH = { 4 };
 
     ghost fits = { FitsSigned w32 };
 
@@ -75,7 +82,9 @@ impl Field for i32 {
 impl Field for Input {
     ghost wire = { input_bytes };
 
-    ghost width = { 5 };
+    const WIDTH: usize = 5;
+
+    ghost WIDTH = { 5 };
 
     ghost fits = { λ i. FitsSigned w32 i.value };
 
@@ -100,14 +109,26 @@ impl Field for Input {
 }
 
 // The field at the front where its bit stands, and what follows it.
+// Whether it stands is asked at the call: a bit map and a number of a bit would be a parameter more, and a `requires`.
 pub fn take_field<F: Field>(there: bool, bytes: &[u8]) -> Option<(Option<F>, &[u8])>
-    ensures { MatchOption result (length bytes.now < (if there then F.width else 0)) (λ x. (is_some x.0 ≡ there) × (bytes.now ≡ field F.wire x.0 ++ x.1.now) × IfSome x.0 F.fits) }
+    ensures { MatchOption result (length bytes.now < (if there then F.WIDTH else 0)) (λ x. (is_some x.0 ≡ there) × (bytes.now ≡ field F.wire x.0 ++ x.1.now) × IfSome x.0 F.fits) }
 {
     if !there {
         return Some((None, bytes));
     }
     let (f, rest) = F::take(bytes)?;
     Some((Some(f), rest))
+}
+
+// How many bytes a field takes, where there is one.
+pub fn field_len<F: Field>(f: Option<F>) -> usize
+    ensures length { result ≡ length (field F.wire f) }
+    ensures most { result ≤ F.WIDTH }
+{
+    match f {
+        Some(_) => F::WIDTH,
+        None => 0,
+    }
 }
 
 // Writes a field where there is one.
