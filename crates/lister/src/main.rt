@@ -32,12 +32,14 @@ fn listed(bytes: &[u8], heap: Global) -> Result<Vec<u8>, SheetFault>
     Ok(text)
 }
 
-fn main(rt: HostRuntime) -> anyhow::Result<()> {
+fn main(rt: HostRuntime) -> io::Result<()> {
     let heap = rt.alloc();
     let bytes = read_input(rt.stdin(), heap)?;
-    let text = listed(bytes.as_slice(), heap)?;
-    rt.stdout().write_all(text.as_slice())?;
-    Ok(())
+    // the only fault here is want of memory
+    let text = listed(bytes.as_slice(), heap).map_err(|_| io::Error::from(
+        io::ErrorKind::OutOfMemory,
+    ))?;
+    rt.stdout().write_all(text.as_slice())
 }
 
 #[cfg(test)]

@@ -1,6 +1,5 @@
 // What a record of a call sheet holds, and the calls that it gives.
 use signal::status::Status;
-use thiserror::Error;
 
 // What an input call brings: a value in thousandths of a percent of span, not yet checked, and a status.
 #[derive(Clone, Copy)]
@@ -33,14 +32,10 @@ pub enum Call {
 }
 
 // Why a sheet was not read or written. Places count from 0, at the bad record's bit map.
-#[derive(Clone, Copy, Debug, Error)]
+#[derive(Clone, Copy, Debug)]
 pub enum SheetFault {
-    #[error("the record at {0} is cut short")]
     CutShort(usize),
-    #[error("bit 7 stands in the bit map at {0}")]
     BitSeven(usize),
-    #[error("a sheet has at most 65536 bytes")]
     TooLong,
-    #[error("memory is wanting")]
     Memory,
 }
