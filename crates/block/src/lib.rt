@@ -9,6 +9,7 @@ pub mod kinds;
 pub mod lines;
 pub mod making;
 
+pub use alone::OneBlock;
 pub use end::LowerEnd;
 pub use fault::EndFault;
 pub use kinds::{Ask, Block, Options, Permitted, Reading, Refusal, Settings};

@@ -11,7 +11,7 @@ use Rattle.signal.specs.declared.mode.Mode.{Mode}
 use Rattle.signal.specs.declared.mode.Mode.TheVariants.{OutOfService, IMan, Lo, Auto, Cas}
 use Rattle.signal.specs.declared.status.Signal.{Signal}
 use Rattle.law.specs.Law.{LawModel, LawMeaning}
-use Rattle.block.proofs.Asks.{Standing, standing, Unwritten, unwritten, sp_cases, refused_same}
+use Rattle.block.specs.Asks.{Standing, standing, Unwritten, unwritten, sp_cases, refused_same}
 use Rattle.block.proofs.Next.{next_os, next_cas_target, next_cas_asked, next_free, cas_shows, shows_plain}
 use Rattle.block.proofs.Pulled.{pulled_same, pulled_inside}
 use Rattle.block.specs.Calls.{after_ask, answer_of}

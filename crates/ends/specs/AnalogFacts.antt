@@ -10,7 +10,7 @@ use Rattle.signal.specs.declared.kinds.Value.{Value}
 use Rattle.signal.specs.declared.mode.Mode.{Mode}
 use Rattle.signal.specs.declared.mode.Mode.TheVariants.{OutOfService, IMan, Lo, Man, Auto, Cas}
 use Rattle.signal.specs.declared.status.Signal.{Signal}
-use Rattle.block.proofs.Asks.{standing}
+use Rattle.block.specs.Asks.{standing}
 use Rattle.block.proofs.Next.{next_os, next_cas_asked, next_cas_target}
 use Rattle.block.proofs.Pulled.{low_inside}
 use Rattle.block.specs.Alone.{AloneFacts, alone_model}

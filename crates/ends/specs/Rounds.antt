@@ -11,7 +11,7 @@ use Rattle.signal.specs.declared.mode.LoCause.TheVariants.{Switch, Fault}
 use Rattle.signal.specs.declared.mode.Mode.{Mode}
 use Rattle.signal.specs.declared.mode.Mode.TheVariants.{OutOfService, IMan, Lo, Man, Auto, Cas}
 use Rattle.signal.specs.declared.status.Signal.{Signal}
-use Rattle.block.proofs.Asks.{standing, sp_cases, out_cases}
+use Rattle.block.specs.Asks.{standing, sp_cases, out_cases}
 use Rattle.block.proofs.Next.{next_free}
 use Rattle.block.proofs.Pulled.{pulled_same, pulled_inside}
 use Rattle.block.specs.Calls.{after_ask}

@@ -1,17 +1,15 @@
 // The analog end: OUT follows the setpoint, and goes to the fault state after so many faulty rounds.
 ghost use Rattle.std.specs.Prelude.{◌≡◌, ◌≤◌, IfOk, MatchResult};
-ghost use Rattle.block.specs.Alone.{alone_model};
 ghost use Rattle.block.specs.Making.{LimitsAround};
 ghost use Rattle.block.specs.declared.fault.EndFault.TheVariants.{BadLimits};
 ghost use Rattle.signal.specs.Limits.{Inside};
 ghost use Rattle.ends.specs.Analog.{brings_fault, analog_count, analog_out, AnalogKept, analog_own};
 ghost use Rattle.ends.specs.Making.{GoodEndLimits, TimeTaken, action_of, AnalogGood, AnalogFault, fresh_analog, AnalogFrom};
-ghost use Rattle.block.proofs.OneBlock.{alone_meaning};
 ghost use Rattle.ends.specs.AnalogFacts.{analog_facts};
 
 use crate::making::{end_settings, up_to_thousand};
 use crate::round::{aimed_sp, left_sp};
-use block::{Ask, Block, EndFault, LowerEnd, Permitted, Reading, Refusal, limits_around};
+use block::{Ask, Block, EndFault, OneBlock, Permitted, Refusal, limits_around};
 use signal::{Limits, Mode, Quality, Signal, Status, Value};
 
 // What LO by fault does to OUT.
@@ -139,33 +137,25 @@ impl Analog {
     }
 }
 
-impl LowerEnd for Analog {
-    ghost model = { alone_model analog_own };
+impl OneBlock for Analog {
+    ghost own = { analog_own };
 
-    ghost meaning = { alone_meaning analog_own analog_facts };
+    ghost facts = { analog_facts };
 
-    fn blocks(&self) -> u8 {
-        1
-    }
-
-    fn settling(&self) -> u16 {
+    fn settling_number(&self) -> u16 {
         2
     }
 
-    fn shown(&self) -> Signal {
-        self.block.shown()
+    fn block(&self) -> &Block {
+        &self.block
     }
 
-    fn read(&self, number: u8) -> Result<Reading, Refusal> {
-        self.block.read_alone(number)
-    }
-
-    fn ask(&mut self, number: u8, ask: Ask) -> Result<(), Refusal> {
-        self.block.ask_alone(number, ask)
+    fn ask_block(&mut self, ask: Ask) -> Result<(), Refusal> {
+        self.block.ask(ask)
     }
 
     // The count comes before the mode lines, so that a fault time of 1 gives LO at once.
-    fn round(&mut self, cas_in: Signal) {
+    fn run(&mut self, cas_in: Signal) {
         let count = self.counted(cas_in.status);
         let fault = count == self.fault_time;
         let mode = self.block.next_mode(Status::LINKED, fault, cas_in.status);

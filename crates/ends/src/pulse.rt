@@ -1,16 +1,14 @@
 // The pulse end: its position, shown as OUT, goes towards the setpoint by one travel a round.
 ghost use Rattle.std.specs.Prelude.{◌≡◌, ◌≤◌, pos, ◌+ℤ◌, ◌-ℤ◌, IfOk, MatchResult, int_le};
-ghost use Rattle.block.specs.Alone.{alone_model};
 ghost use Rattle.block.specs.declared.fault.EndFault.TheVariants.{BadLimits};
 ghost use Rattle.signal.specs.Limits.{ProperLimits};
 ghost use Rattle.ends.specs.Making.{TimeTaken, PulseGood, PulseFault, fresh_pulse, PulseFrom};
 ghost use Rattle.ends.specs.Pulse.{stepped, pulse_out, PulseKept, pulse_own};
-ghost use Rattle.block.proofs.OneBlock.{alone_meaning};
 ghost use Rattle.ends.specs.PulseFacts.{pulse_facts};
 
 use crate::making::{end_settings, up_to_thousand};
 use crate::round::{aimed_sp, left_sp, runs};
-use block::{Ask, Block, EndFault, LowerEnd, Permitted, Reading, Refusal};
+use block::{Ask, Block, EndFault, OneBlock, Permitted, Refusal};
 use signal::{Limits, Mode, Signal, Status, Value};
 
 // The numbers and bytes of a pulse end as they come.
@@ -118,33 +116,25 @@ impl Pulse {
     }
 }
 
-impl LowerEnd for Pulse {
-    ghost model = { alone_model pulse_own };
+impl OneBlock for Pulse {
+    ghost own = { pulse_own };
 
-    ghost meaning = { alone_meaning pulse_own pulse_facts };
+    ghost facts = { pulse_facts };
 
-    fn blocks(&self) -> u8 {
-        1
-    }
-
-    fn settling(&self) -> u16 {
+    fn settling_number(&self) -> u16 {
         3
     }
 
-    fn shown(&self) -> Signal {
-        self.block.shown()
+    fn block(&self) -> &Block {
+        &self.block
     }
 
-    fn read(&self, number: u8) -> Result<Reading, Refusal> {
-        self.block.read_alone(number)
-    }
-
-    fn ask(&mut self, number: u8, ask: Ask) -> Result<(), Refusal> {
-        self.block.ask_alone(number, ask)
+    fn ask_block(&mut self, ask: Ask) -> Result<(), Refusal> {
+        self.block.ask(ask)
     }
 
     // It asks from above only after a second round in Auto or Cas.
-    fn round(&mut self, cas_in: Signal) {
+    fn run(&mut self, cas_in: Signal) {
         let hides = !runs(self.block.actual);
         let mode = self.block.next_mode(Status::LINKED, false, cas_in.status);
         let aim = aimed_sp(&self.block, mode, cas_in.value);

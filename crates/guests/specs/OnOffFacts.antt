@@ -8,7 +8,7 @@ use Rattle.signal.specs.declared.kinds.Limits.{Limits}
 use Rattle.signal.specs.declared.kinds.Value.{Value}
 use Rattle.signal.specs.declared.mode.Mode.{Mode}
 use Rattle.signal.specs.declared.mode.Mode.TheVariants.{OutOfService, IMan, Lo, Man, Auto, Cas}
-use Rattle.block.proofs.Asks.{standing}
+use Rattle.block.specs.Asks.{standing}
 use Rattle.block.proofs.Next.{next_os, next_cas_asked, next_cas_target}
 use Rattle.block.specs.Alone.{AloneFacts}
 use Rattle.block.specs.Lines.{cause_of}

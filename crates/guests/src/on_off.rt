@@ -1,14 +1,12 @@
 // A third end: a valve that is either open or shut.
 ghost use Rattle.std.specs.Prelude.{◌≡◌, true, false};
-ghost use Rattle.block.specs.Alone.{alone_model};
 ghost use Rattle.block.specs.Making.{fresh_block};
 ghost use Rattle.ends.specs.Making.{end_settings};
 ghost use Rattle.ends.specs.Round.{aimed_sp, left_sp};
 ghost use Rattle.guests.specs.OnOff.{on_off_out, OnOffKept, on_off_own};
-ghost use Rattle.block.proofs.OneBlock.{alone_meaning};
 ghost use Rattle.guests.specs.OnOffFacts.{on_off_facts};
 
-use block::{Ask, Block, LowerEnd, Options, Permitted, Reading, Refusal, Settings};
+use block::{Ask, Block, OneBlock, Options, Permitted, Refusal, Settings};
 use signal::{Limits, Mode, Signal, Status, Value};
 
 #[derive(Drop)]
@@ -65,32 +63,24 @@ fn left_sp(mode: Mode, aim: Value, out: Value) -> Value
     }
 }
 
-impl LowerEnd for OnOff {
-    ghost model = { alone_model on_off_own };
+impl OneBlock for OnOff {
+    ghost own = { on_off_own };
 
-    ghost meaning = { alone_meaning on_off_own on_off_facts };
+    ghost facts = { on_off_facts };
 
-    fn blocks(&self) -> u8 {
-        1
-    }
-
-    fn settling(&self) -> u16 {
+    fn settling_number(&self) -> u16 {
         2
     }
 
-    fn shown(&self) -> Signal {
-        self.block.shown()
+    fn block(&self) -> &Block {
+        &self.block
     }
 
-    fn read(&self, number: u8) -> Result<Reading, Refusal> {
-        self.block.read_alone(number)
+    fn ask_block(&mut self, ask: Ask) -> Result<(), Refusal> {
+        self.block.ask(ask)
     }
 
-    fn ask(&mut self, number: u8, ask: Ask) -> Result<(), Refusal> {
-        self.block.ask_alone(number, ask)
-    }
-
-    fn round(&mut self, cas_in: Signal) {
+    fn run(&mut self, cas_in: Signal) {
         let mode = self.block.next_mode(Status::LINKED, false, cas_in.status);
         let aim = self.aim(mode, cas_in.value);
         let out = self.next_out(mode, aim);

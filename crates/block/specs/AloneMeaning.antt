@@ -1,7 +1,7 @@
 -- An end of one block owes no more than its own facts. Assumes nothing.
 use Rattle.std.proofs.Common.{◌≡◌, ℕ, zero, suc, ◌<◌, ◌≤◌, ◌≢◌, Err, sym, refl, ap, ◌∙◌, arith}
 use Rattle.std.proofs.lemmas.Bool.{false≢true}
-use Rattle.block.proofs.Asks.{standing, refused_same}
+use Rattle.block.specs.Asks.{standing, refused_same}
 use Rattle.block.specs.Alone.{Own, AloneFacts, alone_model}
 use Rattle.block.specs.Calls.{after_ask}
 use Rattle.block.specs.Meaning.{Meaning, SameBuild}
