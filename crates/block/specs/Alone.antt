@@ -2,7 +2,7 @@
 --     alone_model o     the model of an end of one block
 --     AloneFacts o      what such an end has to show; all else that an end owes follows
 --     pick x f k        the first at number 0, and what stands below it at every other
-use Rattle.std.specs.Prelude.{◌≡◌, ℕ, zero, suc, ◌<◌, ◌≤◌, Bool, true, false, cond, ◌≢◌, ◌⊎◌, Ok, Err, Result}
+use Rattle.std.specs.Prelude.{◌≡◌, ℕ, zero, suc, ◌<◌, ◌≤◌, Bool, true, false, cond, ◌≢◌, ◌⊎◌, None, Ok, Err, Result}
 use Rattle.signal.specs.Status.{same_code}
 use Rattle.signal.specs.declared.mode.LoCause.TheVariants.{Switch}
 use Rattle.signal.specs.declared.mode.Mode.{Mode}
@@ -62,7 +62,7 @@ module _ {S : Type 0} (o : Own S) where
     pub over : (s : S) (b d : Block) → o.with_block (o.with_block s b) d ≡ o.with_block s d
     pub kept_asked : (s : S) (a : Ask) → o.kept s → o.kept (o.with_block s (after_ask (o.the_block s) a))
     pub kept_rounded : (s : S) (c : Signal) → o.kept s → o.kept (o.rounded s c)
-    pub no_input : (s : S) → o.kept s → (o.the_block s).settings.takes_input ≡ false
+    pub no_input : (s : S) → o.kept s → (o.the_block s).input ≡ None
     pub settings : (s : S) (c : Signal) → o.kept s → (o.the_block (o.rounded s c)).settings ≡ (o.the_block s).settings
     pub round_leaves : (s : S) (c : Signal) → o.kept s → Untouched (o.the_block s) (o.the_block (o.rounded s c))
     pub out_of_service : (s : S) (c : Signal) → o.kept s

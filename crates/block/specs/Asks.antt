@@ -1,11 +1,13 @@
 -- What a call leaves in a block: its settings, its actual mode and what it hides; refused, all of it. Assumes nothing.
-use Rattle.std.proofs.Common.{◌≡◌, ℕ, Bool, true, false, cond, Some, None, Ok, Err, Option, Result, refl, ap}
+use Rattle.std.proofs.Common.{◌≡◌, ℕ, Bool, true, false, cond, is_some, Some, None, Ok, Err, Option, Result, refl, ap}
 use Rattle.signal.specs.Limits.{pulled}
 use Rattle.signal.specs.Mode.{target_of}
 use Rattle.signal.specs.Value.{value_near}
 use Rattle.signal.specs.declared.kinds.Value.{Value}
 use Rattle.signal.specs.declared.mode.Mode.TheVariants.{IMan}
-use Rattle.block.specs.Calls.{refusal_of, is_value, with_target, changed, after_ask, answer_of}
+use Rattle.signal.specs.declared.status.Signal.{Signal}
+use Rattle.block.specs.Calls.{refusal_of, is_value, with_target, put_input, changed, after_ask, answer_of}
+use Rattle.block.specs.Meaning.{SameMake}
 use Rattle.block.specs.declared.kinds.Ask.{Ask}
 use Rattle.block.specs.declared.kinds.Ask.TheVariants.{Target, Switch, Input, Setpoint, Output}
 use Rattle.block.specs.declared.kinds.Block.{Block}
@@ -15,25 +17,30 @@ use Rattle.block.specs.declared.kinds.Refusal.TheVariants.{NotAuto, NotMan, NotH
 -- what no call changes
 pub record Standing (b d : Block) : Type 0 where
   pub settings : d.settings ≡ b.settings
+  pub has_input : is_some d.input ≡ is_some b.input
   pub actual : d.actual ≡ b.actual
   pub cause : d.cause ≡ b.cause
   pub pv : d.pv ≡ b.pv
   pub hides : d.hides_request ≡ b.hides_request
 
 standing_same : (b : Block) → Standing b b
-standing_same b = record { settings = refl; actual = refl; cause = refl; pv = refl; hides = refl }
+standing_same b = record { settings = refl; has_input = refl; actual = refl; cause = refl; pv = refl; hides = refl }
 
 standing_target : (b : Block) (t : ℕ) → Standing b (changed b (Target t))
 standing_target b t =
     elim (target_of t) as (λ o. Standing b (elim o [ None ↦ b | Some m ↦ with_target b m ]))
-    [ None ↦ standing_same b | Some m ↦ record { settings = refl; actual = refl; cause = refl; pv = refl; hides = refl } ]
+    [ None ↦ standing_same b | Some m ↦ record { settings = refl; has_input = refl; actual = refl; cause = refl; pv = refl; hides = refl } ]
+
+put_same : (o : Option Signal) (i : Signal) → is_some (put_input o i) ≡ is_some o
+put_same None i = refl
+put_same (Some j) i = refl
 
 standing_changed : (b : Block) (a : Ask) → Standing b (changed b a)
 standing_changed b (Target t) = standing_target b t
-standing_changed b (Switch n) = record { settings = refl; actual = refl; cause = refl; pv = refl; hides = refl }
-standing_changed b (Input z s) = record { settings = refl; actual = refl; cause = refl; pv = refl; hides = refl }
-standing_changed b (Setpoint z) = record { settings = refl; actual = refl; cause = refl; pv = refl; hides = refl }
-standing_changed b (Output z) = record { settings = refl; actual = refl; cause = refl; pv = refl; hides = refl }
+standing_changed b (Switch n) = record { settings = refl; has_input = refl; actual = refl; cause = refl; pv = refl; hides = refl }
+standing_changed b (Input z s) = record { settings = refl; has_input = put_same b.input _; actual = refl; cause = refl; pv = refl; hides = refl }
+standing_changed b (Setpoint z) = record { settings = refl; has_input = refl; actual = refl; cause = refl; pv = refl; hides = refl }
+standing_changed b (Output z) = record { settings = refl; has_input = refl; actual = refl; cause = refl; pv = refl; hides = refl }
 
 -- a call is accepted, or the block stays as it is
 pub after_cases : (b : Block) (a : Ask) (P : Block → Type 0) → P b → P (changed b a) → P (after_ask b a)
@@ -42,6 +49,9 @@ after_cases b a P here there =
 
 pub standing : (b : Block) (a : Ask) → Standing b (after_ask b a)
 standing b a = after_cases b a (Standing b) (standing_same b) (standing_changed b a)
+
+pub same_make : (b : Block) (a : Ask) → SameMake b (after_ask b a)
+same_make b a = let st : Standing b (after_ask b a) = standing b a in record { settings = st.settings; has_input = st.has_input }
 
 refused_same_at : (b : Block) (a : Ask) (r : Refusal) (o : Option Refusal)
     → ◌≡◌ {A = Result (Unit {0}) Refusal} (elim o [ None ↦ Ok tt | Some x ↦ Err x ]) (Err r) → elim o [ None ↦ changed b a | Some x ↦ b ] ≡ b

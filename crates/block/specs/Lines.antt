@@ -4,7 +4,7 @@
 --     usable b                         b's input is usable: good, or uncertain where b takes that. A block without input has
 --                                      nothing that is unusable
 --     moved b m sp pv out hides        b as a round leaves it: target, switch, input and settings stand
-use Rattle.std.specs.Prelude.{ℕ, Bool, true, false, cond, not, ◌&&◌, ◌||◌}
+use Rattle.std.specs.Prelude.{ℕ, Bool, true, false, cond, not, ◌&&◌, ◌||◌, Some, None, Option}
 use Rattle.signal.specs.Status.{same_code, quality_of}
 use Rattle.signal.specs.declared.kinds.Value.{Value}
 use Rattle.signal.specs.declared.mode.LoCause.{LoCause}
@@ -13,6 +13,7 @@ use Rattle.signal.specs.declared.mode.Mode.{Mode}
 use Rattle.signal.specs.declared.mode.Mode.TheVariants.{OutOfService, IMan, Lo, Man, Auto, Cas}
 use Rattle.signal.specs.declared.status.Quality.{Quality}
 use Rattle.signal.specs.declared.status.Quality.TheVariants.{Bad, Uncertain, Good, GoodCascade}
+use Rattle.signal.specs.declared.status.Signal.{Signal}
 use Rattle.block.specs.Modes.{is_os, is_man, is_auto, is_cas}
 use Rattle.block.specs.Shown.{shown_status}
 use Rattle.block.specs.declared.kinds.Block.{Block}
@@ -23,9 +24,12 @@ good_enough Uncertain uncertain = uncertain
 good_enough Good uncertain = true
 good_enough GoodCascade uncertain = true
 
+abbrev pub usable_input : Option Signal → Bool → Bool
+usable_input None uncertain = true
+usable_input (Some i) uncertain = good_enough (quality_of i.status.0) uncertain
+
 abbrev pub usable : Block → Bool
-usable b =
-    cond b.settings.takes_input (good_enough (quality_of b.input.status.0) b.settings.options.uncertain_usable) true
+usable b = usable_input b.input b.settings.options.uncertain_usable
 
 -- what keeps a block in Cas: linked, acknowledged, or told to go to its fault state
 abbrev pub keeps_cas : ℕ → Bool

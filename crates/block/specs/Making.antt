@@ -1,5 +1,6 @@
 -- Making a block: permitted and option bytes, the fresh state, and an end's faults. Assumes nothing.
---     fresh_block st hides    a block as made: out of service and not connected, SP and OUT as near to 0 as their limits let them
+--     fresh_block st input hides    a block as made: out of service, SP and OUT as near to 0 as their limits let them
+--     not_connected                 the input that a control block is made with; an end is made with none
 --     ProperAround a b z      a and b are limits, and z lies inside them
 --     PermittedFrom b r       r is what the byte b permits, or b is the byte of no permitted modes
 --     OptionsFrom b r         r are the options of the byte b, or b is the byte of no options
@@ -11,6 +12,7 @@ use Rattle.signal.specs.declared.kinds.Limits.{Limits}
 use Rattle.signal.specs.declared.kinds.Value.{Value}
 use Rattle.signal.specs.declared.mode.LoCause.TheVariants.{Switch}
 use Rattle.signal.specs.declared.mode.Mode.TheVariants.{OutOfService, Man, Auto, Cas}
+use Rattle.signal.specs.declared.status.Signal.{Signal}
 use Rattle.block.specs.declared.fault.EndFault.{EndFault}
 use Rattle.block.specs.declared.fault.EndFault.TheVariants.{BadLimits, BadPermitted, BadAction, BadTime}
 use Rattle.block.specs.declared.kinds.Block.{Block}
@@ -61,5 +63,8 @@ options_of b =
 abbrev pub zero_value : Value
 zero_value = value_near (pos 0)
 
-abbrev pub fresh_block : Settings → Bool → Block
-fresh_block st hides = record { settings = st; target = OutOfService; actual = OutOfService; cause = Switch; switch = false; input = record { value = zero_value; status = record { 0 = 0x08 } }; sp = pulled st.sp_limits zero_value; pv = zero_value; out = pulled st.out_limits zero_value; hides_request = hides }
+abbrev pub not_connected : Signal
+not_connected = record { value = zero_value; status = record { 0 = 0x08 } }
+
+abbrev pub fresh_block : Settings → Option Signal → Bool → Block
+fresh_block st input hides = record { settings = st; target = OutOfService; actual = OutOfService; cause = Switch; switch = false; input = input; sp = pulled st.sp_limits zero_value; pv = zero_value; out = pulled st.out_limits zero_value; hides_request = hides }

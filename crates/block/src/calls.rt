@@ -75,11 +75,11 @@ impl Block {
         ensures answer { result ≡ answer_of self.old (Ask.Input raw status) }
         ensures after { self.new ≡ after_ask self.old (Ask.Input raw status) }
     {
-        if !self.settings.takes_input {
+        if self.input.is_none() {
             return Err(Refusal::NotHere);
         }
         let value = Value::new(raw)?;
-        self.input = Signal { value, status };
+        self.input = Some(Signal { value, status });
         Ok(())
     }
 

@@ -25,7 +25,6 @@ pub struct Settings {
     pub out_limits: Limits,
     pub permitted: Permitted,
     pub options: Options,
-    pub takes_input: bool,
     pub takes_output: bool,
 }
 
@@ -37,7 +36,8 @@ pub struct Block {
     // what LO came by, fixed by the round and not by the switch as it is now
     pub cause: LoCause,
     pub switch: bool,
-    pub input: Signal,
+    // an end has none
+    pub input: Option<Signal>,
     pub sp: Value,
     pub pv: Value,
     pub out: Value,

@@ -9,10 +9,10 @@ impl Block {
     pub fn usable(&self) -> bool
         ensures { result ≡ usable self.now }
     {
-        if !self.settings.takes_input {
+        let Some(input) = self.input else {
             return true;
-        }
-        match self.input.status.quality() {
+        };
+        match input.status.quality() {
             Quality::Bad => false,
             Quality::Uncertain => self.settings.options.uncertain_usable,
             Quality::Good | Quality::GoodCascade => true,

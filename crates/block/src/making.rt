@@ -3,7 +3,7 @@ ghost use Rattle.std.specs.Prelude.{◌≡◌, MatchResult};
 ghost use Rattle.block.specs.Making.{LimitsAround, ProperAround, permitted_of, PermittedFrom, options_of, OptionsFrom, fresh_block};
 
 use crate::kinds::{Block, Options, Permitted, Settings};
-use signal::{Limits, LimitsFault, LoCause, Mode, Signal, Status, Value};
+use signal::{Limits, LimitsFault, LoCause, Mode, Signal, Value};
 
 // Limits, and a value of that number inside them: a track value, or a fault value.
 pub fn limits_around(low: i32, high: i32, inside: i32) -> Result<(Limits, Value), LimitsFault>
@@ -56,8 +56,9 @@ impl Options {
 }
 
 impl Block {
-    pub fn fresh(settings: Settings, hides_request: bool) -> Block
-        ensures { result ≡ fresh_block settings hides_request }
+    // A control block comes with an input, and an end with none.
+    pub fn fresh(settings: Settings, input: Option<Signal>, hides_request: bool) -> Block
+        ensures { result ≡ fresh_block settings input hides_request }
     {
         let zero = Value::pulled_in(0);
         Block {
@@ -66,10 +67,7 @@ impl Block {
             actual: Mode::OutOfService,
             cause: LoCause::Switch,
             switch: false,
-            input: Signal {
-                value: zero,
-                status: Status::NOT_CONNECTED,
-            },
+            input,
             sp: settings.sp_limits.pull(zero),
             pv: zero,
             out: settings.out_limits.pull(zero),

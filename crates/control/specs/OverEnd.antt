@@ -1,5 +1,5 @@
 -- A control block over any lower end, with any law, is a lower end. Assumes nothing.
-use Rattle.std.specs.Prelude.{◌≡◌, ℕ, zero, suc, ◌+◌, ◌*◌, ◌<◌, ◌≤◌, true, false, cond, ◌&&◌, ◌≢◌, ◌⊎◌, Ok, Err, ◌==◌, refl}
+use Rattle.std.specs.Prelude.{◌≡◌, ℕ, zero, suc, ◌+◌, ◌*◌, ◌<◌, ◌≤◌, true, false, cond, ◌&&◌, ◌≢◌, ◌⊎◌, Some, Option, Ok, Err, ◌==◌, refl}
 use Rattle.std.proofs.Common.{sym, ◌∙◌, ap, subst, inl, ⊎_elim, arith}
 use Rattle.std.proofs.lemmas.Bool.{cond-true, cond-false, cond_both, eqb-true, eq-eqb, ne_eqb}
 use Rattle.signal.specs.Limits.{pulled, Inside}
@@ -11,12 +11,12 @@ use Rattle.signal.specs.declared.mode.Mode.{Mode}
 use Rattle.signal.specs.declared.mode.Mode.TheVariants.{OutOfService, IMan, Lo, Auto, Cas}
 use Rattle.signal.specs.declared.status.Signal.{Signal}
 use Rattle.law.specs.Law.{LawModel, LawMeaning}
-use Rattle.block.specs.Asks.{Standing, standing, Unwritten, unwritten, sp_cases, refused_same}
+use Rattle.block.specs.Asks.{Standing, standing, same_make, Unwritten, unwritten, sp_cases, refused_same}
 use Rattle.block.proofs.Next.{next_os, next_cas_target, next_cas_asked, next_free, cas_shows, shows_plain}
 use Rattle.block.proofs.Pulled.{pulled_same, pulled_inside}
 use Rattle.block.specs.Calls.{after_ask, answer_of}
 use Rattle.block.specs.Lines.{usable, keeps_cas, cause_of, moved}
-use Rattle.block.specs.Meaning.{EndModel, Meaning, SameBuild, Untouched, Ready, AllCas, invited}
+use Rattle.block.specs.Meaning.{EndModel, Meaning, SameMake, SameBuild, Untouched, Ready, AllCas, invited}
 use Rattle.block.specs.Modes.{is_cas}
 use Rattle.block.specs.Shown.{shown_status, reading_of}
 use Rattle.block.specs.declared.kinds.Ask.{Ask}
@@ -25,7 +25,7 @@ use Rattle.block.specs.declared.kinds.Refusal.{Refusal}
 use Rattle.block.specs.declared.kinds.Refusal.TheVariants.{NoSuchBlock}
 use Rattle.control.specs.Sent.{away_most, away_none, sp_inside, acknowledged, asked_back, invites, nearer}
 use Rattle.control.specs.Control.{away, next_law, mode_of, out_in, sent_in, with_block, with_lower, ControlKept, control_model}
-use Rattle.control.specs.Steps.{next_pv, next_sp}
+use Rattle.control.specs.Steps.{taken_in, next_pv, next_sp}
 use Rattle.control.specs.declared.kinds.Control.{Control}
 
 not_iman : OutOfService ≡ IMan → ⊥
@@ -85,29 +85,29 @@ module _ {L E : Type 0} (l : LawModel L) (e : EndModel E) (lm : LawMeaning l) (e
 
   -- each fact of the block of a number: the control block's own at 0, and below it that of the number before
   fixed_asked : (s : Control L E) (k : ℕ) (a : Ask) → ControlKept l e s → SameBuild M s (M.asked s k a)
-  fixed_asked s zero a h = record { size = refl; settling = refl; settings = settings }
+  fixed_asked s zero a h = record { size = refl; settling = refl; blocks = blocks }
     where
-      settings : (j : ℕ) → j < M.size s → (M.block (M.asked s 0 a) j).settings ≡ (M.block s j).settings
-      settings zero lt = (standing s.block a).settings
-      settings (suc j) lt = refl
-  fixed_asked s (suc k) a h = record { size = ap (λ (n : ℕ). n + 1) f.size; settling = ap (λ (n : ℕ). n + 2) f.settling; settings = settings }
+      blocks : (j : ℕ) → j < M.size s → SameMake (M.block s j) (M.block (M.asked s 0 a) j)
+      blocks zero lt = same_make s.block a
+      blocks (suc j) lt = record { settings = refl; has_input = refl }
+  fixed_asked s (suc k) a h = record { size = ap (λ (n : ℕ). n + 1) f.size; settling = ap (λ (n : ℕ). n + 2) f.settling; blocks = blocks }
     where
       f : SameBuild e s.lower (e.asked s.lower k a)
       f = em.fixed_asked s.lower k a h.below
 
-      settings : (j : ℕ) → j < M.size s → (M.block (M.asked s (suc k) a) j).settings ≡ (M.block s j).settings
-      settings zero lt = refl
-      settings (suc j) lt = f.settings j (omega arith)
+      blocks : (j : ℕ) → j < M.size s → SameMake (M.block s j) (M.block (M.asked s (suc k) a) j)
+      blocks zero lt = record { settings = refl; has_input = refl }
+      blocks (suc j) lt = f.blocks j (omega arith)
 
   fixed_rounded : (s : Control L E) (c : Signal) → ControlKept l e s → SameBuild M s (M.rounded s c)
-  fixed_rounded s c h = record { size = ap (λ (n : ℕ). n + 1) f.size; settling = ap (λ (n : ℕ). n + 2) f.settling; settings = settings }
+  fixed_rounded s c h = record { size = ap (λ (n : ℕ). n + 1) f.size; settling = ap (λ (n : ℕ). n + 2) f.settling; blocks = blocks }
     where
       f : SameBuild e s.lower (e.rounded s.lower (Sent s c))
       f = em.fixed_rounded s.lower (Sent s c) h.below
 
-      settings : (j : ℕ) → j < M.size s → (M.block (M.rounded s c) j).settings ≡ (M.block s j).settings
-      settings zero lt = refl
-      settings (suc j) lt = f.settings j (omega arith)
+      blocks : (j : ℕ) → j < M.size s → SameMake (M.block s j) (M.block (M.rounded s c) j)
+      blocks zero lt = record { settings = refl; has_input = refl }
+      blocks (suc j) lt = f.blocks j (omega arith)
 
   settling_range : (s : Control L E) → ControlKept l e s → (1 ≤ M.settling s) × (M.settling s ≤ 1000 * M.size s)
   settling_range s h = let r = em.settling_range s.lower h.below in (omega arith, omega arith)
@@ -198,24 +198,24 @@ module _ {L E : Type 0} (l : LawModel L) (e : EndModel E) (lm : LawMeaning l) (e
   inner_keeps_sp s c (suc (suc j)) h p lt n q =
       em.inner_keeps_sp s.lower (Sent s c) (suc j) h.below (omega arith) (omega arith) n q
 
-  takes_pv : (s : Control L E) (c : Signal) (k : ℕ) → ControlKept l e s → k < M.size s → (M.block s k).settings.takes_input ≡ true
-      → (M.block (M.rounded s c) k).pv ≡ cond (usable (M.block s k)) (M.block s k).input.value (M.block s k).pv
-  takes_pv s c zero h lt t = refl
-  takes_pv s c (suc j) h lt t = em.takes_pv s.lower (Sent s c) j h.below (omega arith) t
+  takes_pv : (s : Control L E) (c : Signal) (k : ℕ) (i : Signal) → ControlKept l e s → k < M.size s → (M.block s k).input ≡ Some i
+      → (M.block (M.rounded s c) k).pv ≡ cond (usable (M.block s k)) i.value (M.block s k).pv
+  takes_pv s c zero i h lt t = ap (λ (o : Option Signal). taken_in o (usable s.block) s.block.pv) t
+  takes_pv s c (suc j) i h lt t = em.takes_pv s.lower (Sent s c) j i h.below (omega arith) t
 
-  keeps_out : (s : Control L E) (c : Signal) (k : ℕ) → ControlKept l e s → k < M.size s → (M.block s k).settings.takes_input ≡ true
+  keeps_out : (s : Control L E) (c : Signal) (k : ℕ) (i : Signal) → ControlKept l e s → k < M.size s → (M.block s k).input ≡ Some i
       → (M.block s k).actual ≡ IMan → (M.block (M.rounded s c) k).actual ≡ Auto
       → (M.block s k).sp ≡ (M.block s k).pv
       → (M.block (M.rounded s c) k).sp ≡ (M.block s k).sp → (M.block (M.rounded s c) k).pv ≡ (M.block s k).pv
       → (M.block (M.rounded s c) k).out ≡ pulled (M.block s k).settings.out_limits (M.block s k).out
-  keeps_out s c zero h lt t im au eq sp pv =
+  keeps_out s c zero i h lt t im au eq sp pv =
       let b : Block = s.block in
       let st = h.started im in
       ap (λ (m : Mode). out_in l s m (e.shown s.lower) c) au
       ∙ ap (pulled b.settings.out_limits)
       (ap (λ (v : Value). l.answer s.law b.sp v b.out) pv
       ∙ ap (λ (x : L). l.answer x b.sp b.pv b.out) st.1 ∙ lm.starting_rule st.0 b.sp b.pv b.out eq)
-  keeps_out s c (suc j) h lt t im au eq sp pv = em.keeps_out s.lower (Sent s c) j h.below (omega arith) t im au eq sp pv
+  keeps_out s c (suc j) i h lt t im au eq sp pv = em.keeps_out s.lower (Sent s c) j i h.below (omega arith) t im au eq sp pv
 
   near : (s : Control L E) → ControlKept l e s → M.distance s ≤ M.settling s
   near s h =

@@ -3,7 +3,7 @@
 --     next_sp b m above             3: the setpoint in the mode m that the round brings
 --     next_out b m below track law  4: the output in that mode, with what the law's step answers
 --     sent_status b m below above   6: the status that goes down with the output
-use Rattle.std.specs.Prelude.{ℕ, Bool, cond, not, ◌&&◌, ◌||◌}
+use Rattle.std.specs.Prelude.{ℕ, Bool, cond, not, ◌&&◌, ◌||◌, Some, None, Option}
 use Rattle.signal.specs.Limits.{pulled}
 use Rattle.signal.specs.Status.{same_code, quality_of}
 use Rattle.signal.specs.declared.kinds.Value.{Value}
@@ -16,8 +16,12 @@ use Rattle.block.specs.Lines.{usable}
 use Rattle.block.specs.Modes.{is_os, is_iman, is_cas, runs}
 use Rattle.block.specs.declared.kinds.Block.{Block}
 
+abbrev pub taken_in : Option Signal → Bool → Value → Value
+taken_in None usable pv = pv
+taken_in (Some i) usable pv = cond usable i.value pv
+
 abbrev pub next_pv : Block → Value
-next_pv b = cond (usable b) b.input.value b.pv
+next_pv b = taken_in b.input (usable b) b.pv
 
 -- with the option that the setpoint tracks the process value
 abbrev pub tracked_sp : Block → Value

@@ -7,7 +7,7 @@ use crate::fault::ControlFault;
 use crate::kinds::{Control, ControlSetup};
 use block::{Block, EndFault, LowerEnd, Options, Permitted, Settings, limits_around};
 use law::{Law, LawFault};
-use signal::{Limits, Value};
+use signal::{Limits, Signal, Status, Value};
 
 // The most blocks that a control block may stand over.
 const MOST_BELOW: u8 = 15;
@@ -40,7 +40,6 @@ impl ControlSetup {
             out_limits,
             permitted,
             options,
-            takes_input: true,
             takes_output: true,
         };
         Ok((settings, track_value))
@@ -56,7 +55,7 @@ impl<L: Law + Drop, E: LowerEnd + Drop> Control<L, E> {
         if lower.blocks() > MOST_BELOW {
             return Err(ControlFault::TooManyBlocks);
         }
-        let block = Block::fresh(settings, false);
+        let block = Block::fresh(settings, Some(Signal::new(0, Status::NOT_CONNECTED)), false);
         law.start(block.sp, block.pv, block.out);
         Ok(Control {
             block,

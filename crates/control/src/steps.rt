@@ -9,10 +9,9 @@ use signal::{Mode, Quality, Signal, Status, Value};
 pub(crate) fn next_pv(block: &Block) -> Value
     ensures { result ≡ next_pv block.now }
 {
-    if block.usable() {
-        block.input.value
-    } else {
-        block.pv
+    match block.input {
+        Some(input) if block.usable() => input.value,
+        _ => block.pv,
     }
 }
 

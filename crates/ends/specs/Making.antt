@@ -68,13 +68,13 @@ abbrev pub no_options : Options
 no_options = record { fault_on_bad_input = false; track_pv = false; uncertain_usable = false }
 
 abbrev pub end_settings : Limits → Permitted → Bool → Settings
-end_settings l p out = record { sp_limits = l; out_limits = l; permitted = p; options = no_options; takes_input = false; takes_output = out }
+end_settings l p out = record { sp_limits = l; out_limits = l; permitted = p; options = no_options; takes_output = out }
 
 abbrev pub fresh_analog : Limits → Permitted → ℕ → Value → FaultAction → Analog
-fresh_analog l p time value action = record { block = fresh_block (end_settings l p true) false; fault_time = time; fault_value = value; fault_action = action; count = 0 }
+fresh_analog l p time value action = record { block = fresh_block (end_settings l p true) None false; fault_time = time; fault_value = value; fault_action = action; count = 0 }
 
 abbrev pub fresh_pulse : Limits → Permitted → ℕ → Pulse
-fresh_pulse l p travel = record { block = fresh_block (end_settings l p false) true; travel = travel }
+fresh_pulse l p travel = record { block = fresh_block (end_settings l p false) None true; travel = travel }
 
 -- fresh, with one pair of limits, and every number and byte as given
 pub record AnalogFrom (su : AnalogSetup) (a : Analog) : Type 0 where

@@ -4,7 +4,7 @@
 --     left_sp m aim out               the setpoint that it leaves: in Man and LO it follows OUT
 --     rounded_block b fault c out hides    b after the round, which worked OUT out
 --     KeptBlock b                     SP and OUT lie inside the one pair of limits, and b takes no input
-use Rattle.std.specs.Prelude.{◌≡◌, Bool, false}
+use Rattle.std.specs.Prelude.{◌≡◌, Bool, None}
 use Rattle.signal.specs.Limits.{pulled, Inside}
 use Rattle.signal.specs.declared.kinds.Value.{Value}
 use Rattle.signal.specs.declared.mode.Mode.{Mode}
@@ -43,4 +43,4 @@ pub record KeptBlock (b : Block) : Type 0 where
   pub sp_inside : Inside b.settings.sp_limits b.sp
   pub out_inside : Inside b.settings.sp_limits b.out
   pub one_pair : b.settings.sp_limits ≡ b.settings.out_limits
-  pub no_input : b.settings.takes_input ≡ false
+  pub no_input : b.input ≡ None

@@ -104,7 +104,7 @@ impl Analog {
         ensures kept { AnalogKept result }
     {
         Analog {
-            block: Block::fresh(end_settings(limits, permitted, true), false),
+            block: Block::fresh(end_settings(limits, permitted, true), None, false),
             fault_time,
             fault_value,
             fault_action,

@@ -24,7 +24,6 @@ pub(crate) fn end_settings(limits: Limits, permitted: Permitted, takes_output: b
         out_limits: limits,
         permitted,
         options: Options::NONE,
-        takes_input: false,
         takes_output,
     }
 }

@@ -101,7 +101,7 @@ impl Pulse {
         ensures kept { PulseKept result }
     {
         Pulse {
-            block: Block::fresh(end_settings(limits, permitted, false), true),
+            block: Block::fresh(end_settings(limits, permitted, false), None, true),
             travel,
         }
     }

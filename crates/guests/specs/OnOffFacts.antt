@@ -1,6 +1,6 @@
 -- An end that is open or shut shows all that an end of one block owes. Assumes nothing.
 use Rattle.std.proofs.Common.{ap, ◌∙◌, arith, lit≤}
-use Rattle.std.specs.Prelude.{true, false, int_lt, refl}
+use Rattle.std.specs.Prelude.{true, false, int_lt, None, refl}
 use Rattle.std.proofs.lemmas.Int.{ints}
 use Rattle.std.proofs.lemmas.Bool.{cond_both}
 use Rattle.signal.specs.Limits.{Inside}
@@ -38,7 +38,7 @@ out_inside b Cas aim k = either_inside b aim
 some_kept : OnOff → (s : OnOff) × OnOffKept s
 some_kept s =
     let l : Limits = s.block.settings.sp_limits in (
-      record { block = fresh_block (end_settings l s.block.settings.permitted true) false },
+      record { block = fresh_block (end_settings l s.block.settings.permitted true) None false },
       record { block = fresh_kept l s.block.settings.permitted true false; shows_request = refl },
     )
 

@@ -17,18 +17,17 @@ pub struct OnOff {
 impl OnOff {
     pub fn new(limits: Limits, permitted: Permitted) -> OnOff
         ensures kept { OnOffKept result }
-        ensures fresh { result.block ≡ fresh_block (end_settings limits permitted true) false }
+        ensures fresh { result.block ≡ fresh_block (end_settings limits permitted true) None false }
     {
         let settings = Settings {
             sp_limits: limits,
             out_limits: limits,
             permitted,
             options: Options::NONE,
-            takes_input: false,
             takes_output: true,
         };
         OnOff {
-            block: Block::fresh(settings, false),
+            block: Block::fresh(settings, None, false),
         }
     }
 
