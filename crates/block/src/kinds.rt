@@ -1,4 +1,6 @@
 // What every block has, whatever its kind, and what it can be asked.
+ghost use Rattle.signal.specs.Limits.{Inside};
+
 use signal::{Limits, LoCause, Mode, Signal, Status, Value};
 
 // The modes that a block permits: O/S, Man and Auto always, Cas where it is said.
@@ -16,6 +18,14 @@ pub struct Options {
     pub track_pv: bool,
     // 08: an uncertain input is usable
     pub uncertain_usable: bool,
+}
+
+// Limits, and a value inside them: a track value, or a fault value.
+#[derive(Clone, Copy)]
+pub struct Bounded {
+    pub limits: Limits,
+    pub value: Value,
+    ghost inside: { Inside limits value },
 }
 
 // What is fixed once a block is made.

@@ -36,15 +36,14 @@ out_inside a Cas aim k h = h
 some_kept : Analog → (a : Analog) × AnalogKept a
 some_kept a =
     let l : Limits = a.block.settings.sp_limits in (
-      fresh_analog l a.block.settings.permitted 1 l.low a.fault_action,
-      record { block = fresh_kept l a.block.settings.permitted true false; value_inside = low_inside l; time = lit≤ tt; shows_request = refl },
+      fresh_analog l a.block.settings.permitted a.fault_time l.low a.fault_action,
+      record { block = fresh_kept l a.block.settings.permitted true false; value_inside = low_inside l; shows_request = refl },
     )
 
 kept_asked : (a : Analog) (x : Ask) → AnalogKept a → AnalogKept (analog_with a (after_ask a.block x))
 kept_asked a x k = record {
   block = block_asked a.block x k.block;
   value_inside = rw (standing a.block x).settings k.value_inside;
-  time = k.time;
   shows_request = (standing a.block x).hides ∙ k.shows_request;
 }
 
@@ -53,7 +52,6 @@ kept_rounded a c k = record {
   block = block_rounded a.block (analog_faulty a c.status.0) c _ false k.block
       (out_inside a (analog_mode a c) (analog_aim a c) k (aim_inside a.block c.value (analog_mode a c) k.block.sp_inside));
   value_inside = k.value_inside;
-  time = k.time;
   shows_request = refl;
 }
 
@@ -62,8 +60,8 @@ invited_whole : (asks : Bool) → brings_fault (cond asks 0xC4 0xC0) ≡ false
 invited_whole true = refl
 invited_whole false = refl
 
-no_fault : (a : Analog) (s : ℕ) → 1 ≤ a.fault_time → brings_fault s ≡ false → analog_faulty a s ≡ false
-no_fault a s t e = grind (arith, nat_tests)
+no_fault : (a : Analog) (s : ℕ) → brings_fault s ≡ false → analog_faulty a s ≡ false
+no_fault a s e = let least = a.fault_time.least in grind (arith, nat_tests)
 
 nearer : (m : Mode) → (analog_away (led m false) false < analog_away m false) ⊎ ((analog_away m false ≡ 0) × (analog_away (led m false) false ≡ 0))
 nearer OutOfService = inl (lit< tt)
@@ -84,7 +82,7 @@ falls : (a : Analog) (c : Signal) → AnalogKept a → a.block.target ≡ Cas �
 falls a c k t s e =
     let whole : brings_fault c.status.0 ≡ false = rw e (invited_whole (same_code (shown_status a.block) 0xC8)) in
     falls_at a.block.actual (analog_mode a c) a.block.hides_request k.shows_request
-    (invited_mode a.block (analog_faulty a c.status.0) c k.block t s (no_fault a c.status.0 k.time whole) e)
+    (invited_mode a.block (analog_faulty a c.status.0) c k.block t s (no_fault a c.status.0 whole) e)
 
 pub near : (m : Mode) (hides : Bool) → analog_away m hides ≤ 2
 near OutOfService hides = lit≤ tt

@@ -59,15 +59,14 @@ out_inside p OutOfService aim k h = k.block.out_inside
 out_inside p IMan aim k h = k.block.out_inside
 out_inside p Lo aim k h = k.block.out_inside
 out_inside p Man aim k h = k.block.out_inside
-out_inside p Auto aim k h = stepped_inside p.block.settings.sp_limits p.block.out aim p.travel k.block.out_inside h
-out_inside p Cas aim k h = stepped_inside p.block.settings.sp_limits p.block.out aim p.travel k.block.out_inside h
+out_inside p Auto aim k h = stepped_inside p.block.settings.sp_limits p.block.out aim p.travel.number k.block.out_inside h
+out_inside p Cas aim k h = stepped_inside p.block.settings.sp_limits p.block.out aim p.travel.number k.block.out_inside h
 
 kept_rounded : (p : Pulse) (c : Signal) → PulseKept p → PulseKept (pulse_rounded p c)
 kept_rounded p c k = record {
   block = block_rounded p.block false c _ (pulse_hides p) k.block
       (out_inside p (end_mode p.block false c) (end_aim p.block false c) k
       (aim_inside p.block c.value (end_mode p.block false c) k.block.sp_inside));
-  travels = k.travels;
 }
 
 nearer : (m : Mode) (hides : Bool)
@@ -105,8 +104,8 @@ there Cas hides e = refl
 some_kept : Pulse → (p : Pulse) × PulseKept p
 some_kept p =
     let l : Limits = p.block.settings.sp_limits in (
-      fresh_pulse l p.block.settings.permitted 1,
-      record { block = fresh_kept l p.block.settings.permitted false true; travels = lit≤ tt },
+      fresh_pulse l p.block.settings.permitted p.travel,
+      record { block = fresh_kept l p.block.settings.permitted false true },
     )
 
 pub pulse_facts : AloneFacts pulse_own
@@ -115,7 +114,7 @@ pulse_facts = record {
   put = λ p b. refl;
   over = λ p b d. refl;
   same = λ p. refl;
-  kept_asked = λ p x k. record { block = block_asked p.block x k.block; travels = k.travels };
+  kept_asked = λ p x k. record { block = block_asked p.block x k.block };
   kept_rounded = kept_rounded;
   no_input = λ p k. k.block.no_input;
   settings = λ p c k. refl;

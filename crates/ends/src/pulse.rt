@@ -1,15 +1,16 @@
 // The pulse end: its position, shown as OUT, goes towards the setpoint by one travel a round.
-ghost use Rattle.std.specs.Prelude.{◌≡◌, ◌≤◌, pos, ◌+ℤ◌, ◌-ℤ◌, IfOk, MatchResult, int_le};
-ghost use Rattle.block.specs.declared.fault.EndFault.TheVariants.{BadLimits};
-ghost use Rattle.signal.specs.Limits.{ProperLimits};
-ghost use Rattle.ends.specs.Making.{TimeTaken, PulseGood, PulseFault, fresh_pulse, PulseFrom};
+ghost use Rattle.std.specs.Prelude.{◌≡◌, ◌≤◌, ◌+ℤ◌, IfOk, MatchResult};
+ghost use Rattle.std.specs.Int.Signed.{mag};
+ghost use Rattle.block.specs.Modes.{runs};
+ghost use Rattle.ends.specs.Making.{PulseGood, PulseFault, fresh_pulse, PulseFrom};
 ghost use Rattle.ends.specs.Pulse.{stepped, pulse_out, PulseKept, pulse_own};
 ghost use Rattle.ends.specs.PulseFacts.{pulse_facts};
 
-use crate::making::{end_settings, up_to_thousand};
-use crate::round::{aimed_sp, left_sp, runs};
+use crate::making::end_settings;
+use crate::round::EndRound;
+use crate::thousand::Thousand;
 use block::{Ask, Block, EndFault, OneBlock, Permitted, Refusal};
-use signal::{Limits, Mode, Signal, Status, Value};
+use signal::{Limits, Mode, Signal, Value};
 
 // The numbers and bytes of a pulse end as they come.
 #[derive(Clone, Copy)]
@@ -24,59 +25,35 @@ pub struct PulseSetup {
 #[derive(Drop)]
 pub struct Pulse {
     block: Block,
-    travel: u16,
+    travel: Thousand,
 }
 
-// The number a travel above a position, which may lie out of range.
-fn above(from: Value, travel: u16) -> i64
-    ensures { result ≡ from.raw +ℤ pos travel }
+fn runs(mode: Mode) -> bool
+    ensures { result ≡ runs mode }
 {
-    from.raw() as i64 + travel as i64
+    matches!(mode, Mode::Auto | Mode::Cas)
 }
 
-fn below(from: Value, travel: u16) -> i64
-    ensures { result ≡ from.raw -ℤ pos travel }
+// The number so far off a position, up or down; it may lie out of range.
+fn off(from: Value, by: i32) -> i32
+    requires { mag by ≤ 1000 }
+    ensures { result ≡ from.raw +ℤ by }
 {
-    from.raw() as i64 - travel as i64
+    from.raw() + by
 }
 
-fn reaches(aim: Value, up: i64) -> bool
-    ensures { result ≡ int_le up aim.raw }
+fn stepped(from: Value, travel: Thousand, aim: Value) -> Value
+    ensures { result ≡ stepped from travel.number aim }
 {
-    up <= aim.raw() as i64
-}
-
-fn falls_to(aim: Value, down: i64) -> bool
-    ensures { result ≡ int_le aim.raw down }
-{
-    aim.raw() as i64 <= down
-}
-
-fn stepped(from: Value, travel: u16, aim: Value) -> Value
-    ensures { result ≡ stepped from travel aim }
-{
-    let up = above(from, travel);
-    let down = below(from, travel);
-    if reaches(aim, up) {
-        Value::pulled_from(up)
-    } else if falls_to(aim, down) {
-        Value::pulled_from(down)
+    let travel = i32::from(travel.get());
+    let up = off(from, travel);
+    let down = off(from, -travel);
+    if up <= aim.raw() {
+        Value::pulled_in(up)
+    } else if aim.raw() <= down {
+        Value::pulled_in(down)
     } else {
         from
-    }
-}
-
-impl PulseSetup {
-    fn limits(&self) -> Result<Limits, EndFault>
-        ensures { MatchResult result (λ l. ProperLimits self.now.low self.now.high × (l.low.raw ≡ self.now.low) × (l.high.raw ≡ self.now.high)) (λ f. (f ≡ BadLimits) × (ProperLimits self.now.low self.now.high → ⊥)) }
-    {
-        Ok(Limits::new(self.low, self.high)?)
-    }
-
-    fn time(&self) -> Option<u16>
-        ensures { TimeTaken self.now.travel result }
-    {
-        up_to_thousand(self.travel)
     }
 }
 
@@ -85,18 +62,13 @@ impl Pulse {
         ensures from { MatchResult result (λ p. PulseGood setup × PulseFrom setup p) (PulseFault setup) }
         ensures kept { IfOk result pulse_own.kept }
     {
-        let limits = setup.limits()?;
-        let Some(permitted) = Permitted::from_byte(setup.permitted) else {
-            return Err(EndFault::BadPermitted);
-        };
-        let Some(travel) = setup.time() else {
-            return Err(EndFault::BadTime);
-        };
+        let limits = Limits::new(setup.low, setup.high)?;
+        let permitted = Permitted::try_from(setup.permitted)?;
+        let travel = Thousand::try_from(setup.travel)?;
         Ok(Pulse::assembled(limits, permitted, travel))
     }
 
-    fn assembled(limits: Limits, permitted: Permitted, travel: u16) -> Pulse
-        requires { 1 ≤ travel }
+    fn assembled(limits: Limits, permitted: Permitted, travel: Thousand) -> Pulse
         ensures whole { result ≡ fresh_pulse limits permitted travel }
         ensures kept { PulseKept result }
     {
@@ -136,11 +108,8 @@ impl OneBlock for Pulse {
     // It asks from above only after a second round in Auto or Cas.
     fn run(&mut self, cas_in: Signal) {
         let hides = !runs(self.block.actual);
-        let mode = self.block.next_mode(Status::LINKED, false, cas_in.status);
-        let aim = aimed_sp(&self.block, mode, cas_in.value);
-        let out = self.next_out(mode, aim);
-        let pv = self.block.pv;
-        self.block
-            .move_to(mode, left_sp(mode, aim, out), pv, out, hides);
+        let round = EndRound::new(&self.block, false, cas_in);
+        let out = self.next_out(round.mode, round.aim);
+        round.leave(&mut self.block, out, hides);
     }
 }

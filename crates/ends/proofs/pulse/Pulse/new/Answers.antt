@@ -1,0 +1,20 @@
+-- The numbers as given are those that the parts were made of.
+use Rattle.std.proofs.Common.{refl, ap, is_some, arith}
+use Rattle.std.proofs.lemmas.Int.{ints}
+use Rattle.ends.proofs.pulse.Pulse.new.Goals as goal
+
+pub returns-clause-from : goal.returns-clause-from
+returns-clause-from c =
+    let l = c.in_ok-limits.ensures in
+    let p = c.in_ok-permitted.ensures.1 in
+    let t = c.in_ok-travel.ensures in
+    let whole = c.assembled.ensures.whole in (
+      (omega (arith, ints), ap is_some p, omega (arith, ints)),
+      record {
+        fresh = rw whole refl;
+        low_end = rw whole (omega (arith, ints));
+        high_end = rw whole (omega (arith, ints));
+        permits = rw whole p;
+        travels = rw whole (omega (arith, ints));
+      },
+    )
