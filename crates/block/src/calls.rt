@@ -5,12 +5,12 @@ ghost use Rattle.block.specs.Shown.{shown_status, shown_signal, reading_of};
 ghost use Rattle.block.specs.Calls.{refusal_number, permits, answer_of, after_ask};
 
 use crate::kinds::{Ask, Block, Permitted, Reading, Refusal};
-use signal::{Mode, Signal, Status, TargetFault, Value, ValueFault};
+use signal::{Mode, Numbered, Signal, Status, TargetFault, Value, ValueFault};
 
-impl Refusal {
-    pub fn number(self) -> u8
-        ensures { result ≡ refusal_number self }
-    {
+impl Numbered for Refusal {
+    ghost number_of = { refusal_number };
+
+    fn number(self) -> u8 {
         self as u8
     }
 }
@@ -78,7 +78,7 @@ impl Block {
         if self.input.is_none() {
             return Err(Refusal::NotHere);
         }
-        let value = Value::new(raw)?;
+        let value = Value::try_from(raw)?;
         self.input = Some(Signal { value, status });
         Ok(())
     }
@@ -87,7 +87,7 @@ impl Block {
         ensures answer { result ≡ answer_of self.old (Ask.Setpoint raw) }
         ensures after { self.new ≡ after_ask self.old (Ask.Setpoint raw) }
     {
-        let value = Value::new(raw)?;
+        let value = Value::try_from(raw)?;
         if self.actual != Mode::Auto {
             return Err(Refusal::NotAuto);
         }
@@ -102,7 +102,7 @@ impl Block {
         if !self.settings.takes_output {
             return Err(Refusal::NotHere);
         }
-        let value = Value::new(raw)?;
+        let value = Value::try_from(raw)?;
         if self.actual != Mode::Man {
             return Err(Refusal::NotMan);
         }

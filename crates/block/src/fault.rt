@@ -3,9 +3,8 @@ ghost use Rattle.std.specs.Prelude.{◌≡◌};
 ghost use Rattle.block.specs.Making.{end_fault_number};
 ghost use Rattle.block.specs.declared.fault.EndFault.TheVariants.{BadLimits, BadPermitted};
 
-use signal::LimitsFault;
+use signal::{LimitsFault, Numbered};
 
-// A number, once given out, keeps its meaning.
 #[derive(Clone, Copy, Debug)]
 pub enum EndFault {
     BadLimits = 12,
@@ -26,10 +25,10 @@ pub enum OptionsFault {
     BadOptions,
 }
 
-impl EndFault {
-    pub fn number(self) -> u8
-        ensures { result ≡ end_fault_number self }
-    {
+impl Numbered for EndFault {
+    ghost number_of = { end_fault_number };
+
+    fn number(self) -> u8 {
         self as u8
     }
 }

@@ -65,7 +65,7 @@ pub enum Ask {
     Output(i32),
 }
 
-// Why a call was turned down. A number, once given out, keeps its meaning.
+// Why a call was turned down.
 #[derive(Clone, Copy, Debug)]
 pub enum Refusal {
     NoSuchBlock = 1,

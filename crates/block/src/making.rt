@@ -11,9 +11,7 @@ impl Bounded {
         ensures { MatchResult result (BoundedFrom low high value) (λ _. ProperAround low high value → ⊥) }
     {
         let limits = Limits::new(low, high)?;
-        let Ok(value) = Value::new(value) else {
-            return Err(LimitsFault::BadLimits);
-        };
+        let value = Value::try_from(value)?;
         if !limits.holds(value) {
             return Err(LimitsFault::BadLimits);
         }
@@ -65,7 +63,7 @@ impl Block {
     pub fn fresh(settings: Settings, input: Option<Signal>, hides_request: bool) -> Block
         ensures { result ≡ fresh_block settings input hides_request }
     {
-        let zero = Value::pulled_in(0);
+        let zero = Value::ZERO;
         Block {
             settings,
             target: Mode::OutOfService,

@@ -2,7 +2,7 @@
 use block::{Ask, EndFault, LowerEnd};
 use ends::analog::{Analog, AnalogSetup};
 use ends::pulse::{Pulse, PulseSetup};
-use signal::{Signal, Status};
+use signal::{Numbered, Signal, Status};
 use std::test::Fail;
 
 fn analog(
@@ -30,25 +30,15 @@ fn pulse(high: i32, permitted: u8, travel: i32) -> Result<Pulse, EndFault> {
     })
 }
 
-// The refusal's number, or 0 where an end is made.
-fn fault<E: Drop>(made: Result<E, EndFault>) -> u8 {
-    match made {
-        Ok(_) => 0,
-        Err(e) => e.number(),
-    }
+// The refusal's number, or 0 where there is none.
+fn fault<T: Drop, F: Numbered + Drop>(answer: Result<T, F>) -> u8 {
+    answer.map_or_else(|fault| fault.number(), |_| 0)
 }
 
 // What is shown after a round on this value and status.
 fn shown_after<E: LowerEnd>(end: &mut E, value: i32, status: u8) -> u8 {
     end.round(Signal::new(value, Status(status)));
     end.shown().status.0
-}
-
-fn refusal<E: LowerEnd>(end: &mut E, ask: Ask) -> u8 {
-    match end.ask(0, ask) {
-        Ok(()) => 0,
-        Err(e) => e.number(),
-    }
 }
 
 // Of several faults the one with the lowest number is told.
@@ -79,7 +69,7 @@ fn pulse_making(rt: HostRuntime) {
 #[test]
 fn fault_on_third_round(rt: HostRuntime) -> Result<(), Fail> {
     let mut end = analog(20_000, 0x9C, 1, 3)?;
-    assert_eq!(rt; refusal(&mut end, Ask::Target(0x04)), 0);
+    assert_eq!(rt; fault(end.ask(0, Ask::Target(0x04))), 0);
     assert_eq!(rt; shown_after(&mut end, 0, 0xC0), 0xC8);
     assert_eq!(rt; shown_after(&mut end, 0, 0xC4), 0xC0);
     assert_eq!(rt; shown_after(&mut end, 7, 0xE0), 0xC0);
@@ -98,7 +88,7 @@ fn fault_on_third_round(rt: HostRuntime) -> Result<(), Fail> {
 fn request_on_second_round(rt: HostRuntime) -> Result<(), Fail> {
     let mut end = pulse(100_000, 0x9C, 100)?;
     assert_eq!(rt; end.shown().status.0, 0x1C);
-    assert_eq!(rt; refusal(&mut end, Ask::Target(0x04)), 0);
+    assert_eq!(rt; fault(end.ask(0, Ask::Target(0x04))), 0);
     assert_eq!(rt; shown_after(&mut end, 0, 0xC4), 0xCC);
     assert_eq!(rt; shown_after(&mut end, 0, 0xC4), 0xC8);
     assert_eq!(rt; shown_after(&mut end, 199, 0xC4), 0xC0);
@@ -113,9 +103,9 @@ fn calls_that_an_end_has_not(rt: HostRuntime) -> Result<(), Fail> {
     let mut analog = analog(20_000, 0x9C, 1, 3)?;
     let mut pulse = pulse(100_000, 0x9C, 100)?;
     let input = Ask::Input(2_000_000, Status(0x80));
-    assert_eq!(rt; refusal(&mut analog, input), 5);
-    assert_eq!(rt; refusal(&mut pulse, input), 5);
-    assert_eq!(rt; refusal(&mut pulse, Ask::Output(0)), 5);
-    assert_eq!(rt; refusal(&mut analog, Ask::Output(0)), 8);
+    assert_eq!(rt; fault(analog.ask(0, input)), 5);
+    assert_eq!(rt; fault(pulse.ask(0, input)), 5);
+    assert_eq!(rt; fault(pulse.ask(0, Ask::Output(0))), 5);
+    assert_eq!(rt; fault(analog.ask(0, Ask::Output(0))), 8);
     Ok(())
 }

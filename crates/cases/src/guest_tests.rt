@@ -1,6 +1,6 @@
 // A control block with the third law over the third end settles and keeps its output, as any other does.
 use block::{Ask, LowerEnd, Permitted};
-use control::{Control, ControlSetup};
+use control::{Control, ControlFault, ControlSetup};
 use guests::dead_band::DeadBand;
 use guests::on_off::OnOff;
 use signal::{Limits, Mode, Signal, Status};
@@ -16,37 +16,14 @@ const SETUP: ControlSetup = ControlSetup {
     options: 0,
 };
 
-fn head() -> Option<Control<DeadBand, OnOff>> {
-    let Ok(limits) = Limits::new(0, 100_000) else {
-        return None;
-    };
-    let valve = OnOff::new(limits, Permitted { cas: true });
-    match Control::new(DeadBand { band: 10 }, valve, SETUP) {
-        Ok(head) => Some(head),
-        Err(_) => None,
-    }
-}
-
-fn out_of<E: LowerEnd>(end: &E, number: u8) -> i32 {
-    match end.read(number) {
-        Ok(reading) => reading.out.raw(),
-        Err(_) => -1,
-    }
-}
-
-fn actual_of<E: LowerEnd>(end: &E, number: u8) -> Mode {
-    match end.read(number) {
-        Ok(reading) => reading.actual,
-        Err(_) => Mode::OutOfService,
-    }
+fn head() -> Result<Control<DeadBand, OnOff>, ControlFault> {
+    let valve = OnOff::new(Limits::new(0, 100_000)?, Permitted { cas: true });
+    Control::new(DeadBand { band: 10 }, valve, SETUP)
 }
 
 #[test]
 fn settles(rt: HostRuntime) -> Result<(), Fail> {
-    let Some(mut head) = head() else {
-        assert!(rt; false);
-        return Ok(());
-    };
+    let mut head = head()?;
     assert_eq!(rt; head.settling(), 4);
     assert!(rt; head.ask(0, Ask::Target(0x08)).is_ok());
     assert!(rt; head.ask(0, Ask::Input(0, Status(0x80))).is_ok());
@@ -55,13 +32,13 @@ fn settles(rt: HostRuntime) -> Result<(), Fail> {
     for _ in 0..3 {
         head.round(above);
     }
-    assert_eq!(rt; actual_of(&head, 0), Mode::Auto);
-    assert_eq!(rt; actual_of(&head, 1), Mode::Cas);
+    assert_eq!(rt; head.read(0)?.actual, Mode::Auto);
+    assert_eq!(rt; head.read(1)?.actual, Mode::Cas);
     assert!(rt; head.ask(0, Ask::Setpoint(7)).is_ok());
     head.round(above);
-    assert_eq!(rt; out_of(&head, 1), 0);
+    assert_eq!(rt; head.read(1)?.out.raw(), 0);
     assert!(rt; head.ask(0, Ask::Setpoint(500)).is_ok());
     head.round(above);
-    assert_eq!(rt; out_of(&head, 1), 100_000);
+    assert_eq!(rt; head.read(1)?.out.raw(), 100_000);
     Ok(())
 }

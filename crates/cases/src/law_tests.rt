@@ -3,11 +3,19 @@ use law::fault::LawFault;
 use law::gain_bias::GainBias;
 use law::law::Law;
 use law::pi::Pi;
-use signal::Value;
+use signal::{Numbered, OperatingPoint, Value};
 use std::test::Fail;
 
+fn at(sp: i32, out: i32) -> OperatingPoint {
+    OperatingPoint {
+        sp: Value::pulled_in(sp),
+        pv: Value::ZERO,
+        out: Value::pulled_in(out),
+    }
+}
+
 // P, I, action, the setpoint of two steps from 0, 0 and 0, and what they answer.
-static STEPS: [(i32, i32, u8, i64, i32, i32); 4] = [
+static STEPS: [(i32, i32, u8, i32, i32, i32); 4] = [
     (1_000, 100, 0, 500, 550, 50),
     (0, 1, 0, 500, 0, 1),
     (0, 1, 0, -1, -1, 0),
@@ -16,12 +24,11 @@ static STEPS: [(i32, i32, u8, i64, i32, i32); 4] = [
 
 #[test]
 fn pi_steps(rt: HostRuntime) -> Result<(), Fail> {
-    for row in &STEPS {
-        let mut law = Pi::new(row.0, row.1, row.2)?;
-        let sp = Value::pulled_from(row.3);
-        law.start(Value::ZERO, Value::ZERO, Value::ZERO);
-        assert_eq!(rt; law.step(sp, Value::ZERO, Value::ZERO).raw(), row.4);
-        assert_eq!(rt; law.step(sp, Value::ZERO, Value::ZERO).raw(), row.5);
+    for (p, i, action, sp, first, second) in STEPS {
+        let mut law = Pi::new(p, i, action)?;
+        law.start(at(0, 0));
+        assert_eq!(rt; law.step(at(sp, 0)).raw(), first);
+        assert_eq!(rt; law.step(at(sp, 0)).raw(), second);
     }
     Ok(())
 }
@@ -29,12 +36,8 @@ fn pi_steps(rt: HostRuntime) -> Result<(), Fail> {
 #[test]
 fn gain_and_bias(rt: HostRuntime) -> Result<(), Fail> {
     let mut law = GainBias::new(1_500)?;
-    law.start(Value::pulled_in(100), Value::ZERO, Value::pulled_in(40));
-    assert_eq!(rt;
-        law.step(Value::pulled_in(101), Value::ZERO, Value::ZERO)
-            .raw(),
-        41
-    );
+    law.start(at(100, 40));
+    assert_eq!(rt; law.step(at(101, 0)).raw(), 41);
     Ok(())
 }
 

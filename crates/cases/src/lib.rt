@@ -13,7 +13,7 @@ pub mod worked;
 #[cfg(test)]
 mod tests {
     use sheet::read::{read_record, read_sheet};
-    use signal::{LoCause, Mode, Parts, Status, Value};
+    use signal::{LoCause, Mode, Numbered, Parts, Status, Value};
     use std::test::Fail;
 
     // A mode, its byte and word, and what it shows: as a rule, in LO by fault, with the target CAS.
@@ -28,12 +28,12 @@ mod tests {
 
     #[test]
     fn modes(rt: HostRuntime) {
-        for row in &MODES {
-            assert_eq!(rt; row.0.byte(), row.1);
-            assert_eq!(rt; row.0.word(), row.2);
-            assert_eq!(rt; row.0.shown(Mode::Auto, LoCause::Switch).0, row.3);
-            assert_eq!(rt; row.0.shown(Mode::Auto, LoCause::Fault).0, row.4);
-            assert_eq!(rt; row.0.shown(Mode::Cas, LoCause::Switch).0, row.5);
+        for (mode, byte, word, shown, by_fault, for_cas) in MODES {
+            assert_eq!(rt; mode.byte(), byte);
+            assert_eq!(rt; mode.word(), word);
+            assert_eq!(rt; mode.shown(Mode::Auto, LoCause::Switch).0, shown);
+            assert_eq!(rt; mode.shown(Mode::Auto, LoCause::Fault).0, by_fault);
+            assert_eq!(rt; mode.shown(Mode::Cas, LoCause::Switch).0, for_cas);
         }
     }
 
@@ -73,21 +73,16 @@ mod tests {
 
     #[test]
     fn published_codes(rt: HostRuntime) -> Result<(), Fail> {
-        for row in &CODES {
-            let Ok(code) = (Parts {
-                quality: row.1,
-                sub_status: row.2,
+        for (byte, quality, sub_status, name) in CODES {
+            let parts = Parts {
+                quality,
+                sub_status,
                 limits: 0,
-            })
-            .join() else {
-                return Err(Fail::new("not joined"));
             };
-            assert_eq!(rt; code.0, row.0);
-            let parts = code.split();
-            assert_eq!(rt; parts.quality, row.1);
-            assert_eq!(rt; parts.sub_status, row.2);
-            assert_eq!(rt; parts.limits, 0);
-            assert_eq!(rt; code.name(), Some(row.3));
+            let code = parts.join()?;
+            assert_eq!(rt; code.0, byte);
+            assert_eq!(rt; code.split(), parts);
+            assert_eq!(rt; code.name(), Some(name));
         }
         assert_eq!(rt; Status(0xD4).name(), None);
         Ok(())
@@ -107,8 +102,8 @@ mod tests {
 
     #[test]
     fn named_codes(rt: HostRuntime) {
-        for row in &NAMED {
-            assert!(rt; row.0.is(Status(row.1)));
+        for (code, byte) in NAMED {
+            assert!(rt; code.is(Status(byte)));
         }
         assert_eq!(rt; Value::ZERO.raw(), 0);
     }
@@ -123,21 +118,17 @@ mod tests {
 
     #[test]
     fn refusals(rt: HostRuntime) -> Result<(), Fail> {
-        for row in &TOO_WIDE {
-            let Err(fault) = (Parts {
-                quality: row.0,
-                sub_status: row.1,
-                limits: row.2,
-            })
-            .join() else {
-                return Err(Fail::new("joined"));
+        for (quality, sub_status, limits, place) in TOO_WIDE {
+            let parts = Parts {
+                quality,
+                sub_status,
+                limits,
             };
+            let fault = parts.join().err().ok_or("joined")?;
             assert_eq!(rt; fault.number(), 9);
-            assert_eq!(rt; fault.place(), row.3);
+            assert_eq!(rt; fault.place(), place);
         }
-        let Err(fault) = Mode::from_target(0x0C) else {
-            return Err(Fail::new("a target"));
-        };
+        let fault = Mode::from_target(0x0C).err().ok_or("a target")?;
         assert_eq!(rt; fault.number(), 3);
         Ok(())
     }
@@ -152,17 +143,32 @@ mod tests {
 
     #[test]
     fn range(rt: HostRuntime) {
-        for row in &EDGES {
-            match Value::new(row.0) {
+        for (raw, taken) in EDGES {
+            match Value::try_from(raw) {
                 Ok(value) => {
-                    assert!(rt; row.1);
-                    assert_eq!(rt; value.raw(), row.0);
+                    assert!(rt; taken);
+                    assert_eq!(rt; value.raw(), raw);
                 }
                 Err(fault) => {
-                    assert!(rt; !row.1);
+                    assert!(rt; !taken);
                     assert_eq!(rt; fault.number(), 2);
                 }
             }
+        }
+    }
+
+    // A sum pulled in: a number of 64 bits, and the value's.
+    static PULLED: [(i64, i32); 4] = [
+        (1_000_001, 1_000_000),
+        (-1_000_001, -1_000_000),
+        (4_294_967_297, 1_000_000),
+        (-7, -7),
+    ];
+
+    #[test]
+    fn pulled(rt: HostRuntime) {
+        for (sum, raw) in PULLED {
+            assert_eq!(rt; Value::pulled_in(sum).raw(), raw);
         }
     }
 
@@ -179,12 +185,10 @@ mod tests {
 
     #[test]
     fn bad_records(rt: HostRuntime) -> Result<(), Fail> {
-        for row in &BAD_RECORDS {
-            let Err(fault) = read_record(row.0, row.1) else {
-                return Err(Fail::new("a record"));
-            };
-            assert_eq!(rt; fault.number(), Some(row.2));
-            assert_eq!(rt; fault.place(), row.3);
+        for (bytes, from, number, place) in BAD_RECORDS {
+            let fault = read_record(bytes, from).err().ok_or("a record")?;
+            assert_eq!(rt; fault.number(), Some(number));
+            assert_eq!(rt; fault.place(), place);
         }
         Ok(())
     }
@@ -207,9 +211,9 @@ mod tests {
         }
         assert_eq!(rt; bytes.as_slice(), WHOLE.as_slice());
         bytes.push(0x20)?;
-        let Err(fault) = read_sheet(bytes.as_slice(), &mut records) else {
-            return Err(Fail::new("a sheet"));
-        };
+        let fault = read_sheet(bytes.as_slice(), &mut records)
+            .err()
+            .ok_or("a sheet")?;
         assert_eq!(rt; fault.number(), Some(20));
         assert_eq!(rt; fault.place(), 24);
         assert_eq!(rt; records.len(), 14);

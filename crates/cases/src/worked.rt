@@ -11,11 +11,5 @@ pub fn settling_over_pulse<L: Law>(block: &Control<L, Pulse>) -> u16
     ensures worked { Worked L.Law.model }
     ensures five { result ≡ 5 }
 {
-    settling(block)
-}
-
-fn settling<L: Law>(block: &Control<L, Pulse>) -> u16
-    ensures { result ≡ 5 }
-{
     block.settling()
 }

@@ -4,6 +4,7 @@
 --     ControlKept s          what holds of it as made and ever since: SP inside its limits, a law that stands started in IMan
 use Rattle.std.specs.Prelude.{◌≡◌, ℕ, ◌+◌, false, cond, Ok, ◌==◌}
 use Rattle.signal.specs.Limits.{Inside}
+use Rattle.signal.specs.declared.kinds.OperatingPoint.{OperatingPoint}
 use Rattle.signal.specs.declared.kinds.Value.{Value}
 use Rattle.signal.specs.declared.mode.Mode.{Mode}
 use Rattle.signal.specs.declared.mode.Mode.TheVariants.{OutOfService, IMan, Lo, Man, Auto, Cas}
@@ -28,9 +29,17 @@ away Man = 2
 away Auto = 1
 away Cas = 0
 
+-- where a block stands
+abbrev pub point_of : Block → OperatingPoint
+point_of b = record { sp = b.sp; pv = b.pv; out = b.out }
+
+-- 1 and 3: setpoint and process value as a round brings them, at the last output
+abbrev pub brought_to : Block → Mode → Value → OperatingPoint
+brought_to b m above = record { sp = next_sp b m above; pv = next_pv b; out = b.out }
+
 -- 5: a law that is not stepped is started anew, with the numbers as the round leaves them
-abbrev pub next_law : {L : Type 0} → LawModel L → L → Mode → Value → Value → Value → Value → L
-next_law l law m sp pv last out = cond (runs m) (l.stepped law sp pv last) (l.started law sp pv out)
+abbrev pub next_law : {L : Type 0} → LawModel L → L → Mode → OperatingPoint → Value → L
+next_law l law m p out = cond (runs m) (l.stepped law p) (l.started law (record { sp = p.sp; pv = p.pv; out = out }))
 
 abbrev pub with_law : {L E : Type 0} → Control L E → L → Control L E
 with_law s law = record { block = s.block; track_value = s.track_value; law = law; lower = s.lower }
@@ -45,14 +54,13 @@ module _ {L E : Type 0} (l : LawModel L) where
   -- the block and its law in a round that brings the mode m, with the signals below and above
   abbrev pub out_in : Control L E → Mode → Signal → Signal → Value
   out_in s m below above =
-      next_out s.block m below s.track_value
-      (l.answer s.law (next_sp s.block m above.value) (next_pv s.block) s.block.out)
+      next_out s.block m below s.track_value (l.answer s.law (brought_to s.block m above.value))
 
   abbrev pub ran_in : Control L E → Mode → Signal → Signal → Control L E
   ran_in s m below above = record {
     block = moved s.block m (next_sp s.block m above.value) (next_pv s.block) (out_in s m below above) false;
     track_value = s.track_value;
-    law = next_law l s.law m (next_sp s.block m above.value) (next_pv s.block) s.block.out (out_in s m below above);
+    law = next_law l s.law m (brought_to s.block m above.value) (out_in s m below above);
     lower = s.lower;
   }
 
@@ -76,7 +84,7 @@ module _ {L E : Type 0} (l : LawModel L) (e : EndModel E) where
   pub record ControlKept (s : Control L E) : Type 0 where
     pub sp_inside : Inside s.block.settings.sp_limits s.block.sp
     pub shows_request : s.block.hides_request ≡ false
-    pub started : s.block.actual ≡ IMan → (before : L) × (s.law ≡ l.started before s.block.sp s.block.pv s.block.out)
+    pub started : s.block.actual ≡ IMan → (before : L) × (s.law ≡ l.started before (point_of s.block))
     pub below : e.kept s.lower
 
   abbrev pub control_model : EndModel (Control L E)

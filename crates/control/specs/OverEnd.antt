@@ -5,6 +5,7 @@ use Rattle.std.proofs.lemmas.Bool.{cond-true, cond-false, cond_both, eqb-true, e
 use Rattle.signal.specs.Limits.{pulled, Inside}
 use Rattle.signal.specs.Mode.{mode_shows}
 use Rattle.signal.specs.Status.{same_code}
+use Rattle.signal.specs.declared.kinds.OperatingPoint.{OperatingPoint}
 use Rattle.signal.specs.declared.kinds.Value.{Value}
 use Rattle.signal.specs.declared.mode.LoCause.TheVariants.{Switch}
 use Rattle.signal.specs.declared.mode.Mode.{Mode}
@@ -24,8 +25,8 @@ use Rattle.block.specs.declared.kinds.Block.{Block}
 use Rattle.block.specs.declared.kinds.Refusal.{Refusal}
 use Rattle.block.specs.declared.kinds.Refusal.TheVariants.{NoSuchBlock}
 use Rattle.control.specs.Sent.{away_most, away_none, sp_inside, acknowledged, asked_back, invites, nearer}
-use Rattle.control.specs.Control.{away, next_law, mode_of, out_in, sent_in, with_block, with_lower, ControlKept, control_model}
-use Rattle.control.specs.Steps.{taken_in, next_pv, next_sp}
+use Rattle.control.specs.Control.{away, brought_to, next_law, point_of, mode_of, out_in, sent_in, with_block, with_lower, ControlKept, control_model}
+use Rattle.control.specs.Steps.{taken_in, next_sp}
 use Rattle.control.specs.declared.kinds.Control.{Control}
 
 not_iman : OutOfService ≡ IMan → ⊥
@@ -72,14 +73,15 @@ module _ {L E : Type 0} (l : LawModel L) (e : EndModel E) (lm : LawMeaning l) (e
     below = em.kept_asked s.lower k a h.below;
   }
 
-  started_in : (law : L) (m : Mode) (sp pv last out : Value) → m ≡ IMan → next_law l law m sp pv last out ≡ l.started law sp pv out
-  started_in law m sp pv last out i = ap (λ (n : Mode). next_law l law n sp pv last out) i
+  started_in : (law : L) (m : Mode) (p : OperatingPoint) (out : Value) → m ≡ IMan
+      → next_law l law m p out ≡ l.started law (record { sp = p.sp; pv = p.pv; out = out })
+  started_in law m p out i = ap (λ (n : Mode). next_law l law n p out) i
 
   kept_rounded : (s : Control L E) (c : Signal) → ControlKept l e s → ControlKept l e (M.rounded s c)
   kept_rounded s c h = record {
     sp_inside = sp_inside s.block (mode_of l e s c) c.value h.sp_inside;
     shows_request = refl;
-    started = λ i. (s.law, started_in s.law (mode_of l e s c) _ _ _ _ i);
+    started = λ i. (s.law, started_in s.law (mode_of l e s c) _ _ i);
     below = em.kept_rounded s.lower (Sent s c) h.below;
   }
 
@@ -187,7 +189,7 @@ module _ {L E : Type 0} (l : LawModel L) (e : EndModel E) (lm : LawMeaning l) (e
       let a = acknowledged s.block (mode_of l e s c) (e.shown s.lower).status.0 c.status.0 q in
       ap (λ (m : Mode). out_in l s m (e.shown s.lower) c) a.0
       ∙ asked_back s.block (e.shown s.lower) s.track_value
-      (l.answer s.law (next_sp s.block IMan c.value) (next_pv s.block) s.block.out) a.1 ∙ ap (λ (x : Signal). x.value) (em.shows s.lower h.below)
+      (l.answer s.law (brought_to s.block IMan c.value)) a.1 ∙ ap (λ (x : Signal). x.value) (em.shows s.lower h.below)
 
   inner_keeps_sp : (s : Control L E) (c : Signal) (k : ℕ) → ControlKept l e s → 0 < k → k < M.size s
       → (M.block s k).actual ≢ Cas → (M.block (M.rounded s c) k).actual ≡ Cas → (M.block (M.rounded s c) k).sp ≡ (M.block s k).sp
@@ -213,8 +215,8 @@ module _ {L E : Type 0} (l : LawModel L) (e : EndModel E) (lm : LawMeaning l) (e
       let st = h.started im in
       ap (λ (m : Mode). out_in l s m (e.shown s.lower) c) au
       ∙ ap (pulled b.settings.out_limits)
-      (ap (λ (v : Value). l.answer s.law b.sp v b.out) pv
-      ∙ ap (λ (x : L). l.answer x b.sp b.pv b.out) st.1 ∙ lm.starting_rule st.0 b.sp b.pv b.out eq)
+      (ap (λ (v : Value). l.answer s.law (record { sp = b.sp; pv = v; out = b.out })) pv
+      ∙ ap (λ (x : L). l.answer x (point_of b)) st.1 ∙ lm.starting_rule st.0 (point_of b) eq)
   keeps_out s c (suc j) i h lt t im au eq sp pv = em.keeps_out s.lower (Sent s c) j i h.below (omega arith) t im au eq sp pv
 
   near : (s : Control L E) → ControlKept l e s → M.distance s ≤ M.settling s

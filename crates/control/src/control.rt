@@ -8,25 +8,25 @@ use crate::kinds::Control;
 use crate::steps::{next_pv, next_sp, sent_status, taken_back};
 use block::{Ask, LowerEnd, Reading, Refusal};
 use law::Law;
-use signal::{Mode, Signal, Value};
+use signal::{Mode, OperatingPoint, Signal, Value};
 
 impl<L: Law, E: LowerEnd> Control<L, E> {
     // Steps 4 and 5: the output, and the law stepped or started anew.
-    fn run_law(&mut self, mode: Mode, bkcal_in: Signal, sp: Value, pv: Value) -> Value
-        ensures answer { result ≡ next_out self.old.block mode bkcal_in self.old.track_value (L.Law.model.answer self.old.law sp pv self.old.block.out) }
-        ensures after { self.new ≡ with_law self.old (next_law L.Law.model self.old.law mode sp pv self.old.block.out result) }
+    fn run_law(&mut self, mode: Mode, bkcal_in: Signal, at: OperatingPoint) -> Value
+        ensures answer { result ≡ next_out self.old.block mode bkcal_in self.old.track_value (L.Law.model.answer self.old.law at) }
+        ensures after { self.new ≡ with_law self.old (next_law L.Law.model self.old.law mode at result) }
     {
         let last = self.block.out;
         let out = match mode {
             Mode::Auto | Mode::Cas => {
-                let answer = self.law.step(sp, pv, last);
+                let answer = self.law.step(at);
                 return self.block.settings.out_limits.pull(answer);
             }
             Mode::OutOfService | Mode::Man => last,
             Mode::IMan => taken_back(bkcal_in, last),
             Mode::Lo => self.track_value,
         };
-        self.law.start(sp, pv, out);
+        self.law.start(OperatingPoint { out, ..at });
         out
     }
 
@@ -35,11 +35,14 @@ impl<L: Law, E: LowerEnd> Control<L, E> {
         ensures sent { result ≡ sent_in L.Law.model self.old mode bkcal_in cas_in }
         ensures after { self.new ≡ ran_in L.Law.model self.old mode bkcal_in cas_in }
     {
-        let pv = next_pv(&self.block);
-        let sp = next_sp(&self.block, mode, cas_in.value);
+        let at = OperatingPoint {
+            sp: next_sp(&self.block, mode, cas_in.value),
+            pv: next_pv(&self.block),
+            out: self.block.out,
+        };
         let status = sent_status(&self.block, mode, bkcal_in.status, cas_in.status);
-        let out = self.run_law(mode, bkcal_in, sp, pv);
-        self.block.move_to(mode, sp, pv, out, false);
+        let out = self.run_law(mode, bkcal_in, at);
+        self.block.move_to(mode, at.sp, at.pv, out, false);
         Signal { value: out, status }
     }
 }

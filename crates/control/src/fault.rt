@@ -5,10 +5,9 @@ ghost use Rattle.control.specs.declared.fault.ControlFault.TheVariants.{Law, End
 
 use block::{EndFault, OptionsFault, PermittedFault};
 use law::LawFault;
-use signal::LimitsFault;
+use signal::{LimitsFault, Numbered};
 
-// A number, once given out, keeps its meaning.
-#[derive(Clone, Copy)]
+#[derive(Clone, Copy, Debug)]
 pub enum ControlFault {
     Law(LawFault),
     End(EndFault),
@@ -18,10 +17,10 @@ pub enum ControlFault {
     TooManyBlocks,
 }
 
-impl ControlFault {
-    pub fn number(self) -> u8
-        ensures { result ≡ control_fault_number self }
-    {
+impl Numbered for ControlFault {
+    ghost number_of = { control_fault_number };
+
+    fn number(self) -> u8 {
         match self {
             ControlFault::Law(fault) => fault.number(),
             ControlFault::End(fault) => fault.number(),

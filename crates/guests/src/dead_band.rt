@@ -5,7 +5,7 @@ ghost use Rattle.guests.specs.DeadBand.{dead_band_model};
 ghost use Rattle.std.proofs.Common.{rules};
 
 use law::Law;
-use signal::Value;
+use signal::{OperatingPoint, Value};
 
 #[derive(Drop)]
 pub struct DeadBand {
@@ -13,16 +13,16 @@ pub struct DeadBand {
     pub band: u32,
 }
 
-fn error(sp: Value, pv: Value) -> i32
-    ensures { result ≡ sp.raw -ℤ pv.raw }
+fn error(at: OperatingPoint) -> i32
+    ensures { result ≡ at.sp.raw -ℤ at.pv.raw }
 {
-    sp.raw() - pv.raw()
+    at.sp.raw() - at.pv.raw()
 }
 
 fn moved_by(out: Value, error: i32) -> Value
     ensures { result ≡ value_near (out.raw +ℤ error) }
 {
-    Value::pulled_from(out.raw() as i64 + error as i64)
+    Value::pulled_in(i64::from(out.raw()) + i64::from(error))
 }
 
 impl DeadBand {
@@ -38,14 +38,14 @@ impl Law for DeadBand {
 
     ghost meaning = { Prim.search rules };
 
-    fn start(&mut self, sp: Value, pv: Value, out: Value) {}
+    fn start(&mut self, at: OperatingPoint) {}
 
-    fn step(&mut self, sp: Value, pv: Value, out: Value) -> Value {
-        let error = error(sp, pv);
+    fn step(&mut self, at: OperatingPoint) -> Value {
+        let error = error(at);
         if self.passed(error) {
-            moved_by(out, error)
+            moved_by(at.out, error)
         } else {
-            out
+            at.out
         }
     }
 }

@@ -5,7 +5,7 @@ use Rattle.std.proofs.lemmas.Int.{ints}
 use Rattle.law.specs.GainBias.{FreshGainBias, gain_bias_model, gained_by}
 use Rattle.law.specs.Pi.{FreshPi, action_number, error_of}
 use Rattle.law.specs.Quotient.{whole_of}
-use Rattle.law.specs.Worked.{Worked, pi_first, pi_once, pi_second, zero_value}
+use Rattle.law.specs.Worked.{Worked, pi_first, pi_once, pi_second, zero_value, at_setpoint}
 use Rattle.law.specs.declared.gain_bias.GainBias.{GainBias}
 use Rattle.law.specs.declared.pi.Action.{Action}
 use Rattle.law.specs.declared.pi.Action.TheVariants.{Reverse, Direct}
@@ -42,7 +42,7 @@ gain_bias_fresh s g f =
     let eg : g ≡ s.gain.thousandths = omega (arith, ints) in
     λ j. record { gain = record { thousandths = eg j }; bias = sym f.bias_none j }
 
-no_error : (a : Action) → error_of a zero_value zero_value ≡ pos 0
+no_error : (a : Action) → error_of a (at_setpoint (pos 0)) ≡ pos 0
 no_error Reverse = refl
 no_error Direct = refl
 
@@ -63,6 +63,6 @@ worked = record {
   pi_below_zero = λ s f. subst (λ (x : Pi). (pi_first x (negsuc 0) ≡ negsuc 0) × ((pi_once x (negsuc 0)).rest ≡ 999)) (pi_fresh s 0 1 Reverse f) (refl, refl);
   pi_turned = λ s f. subst (λ (x : Pi). (pi_first x (pos 1) ≡ negsuc 0) × ((pi_once x (pos 1)).rest ≡ 999)) (pi_fresh s 0 1 Direct f) (refl, refl);
   gain_bias_moves = λ s pv out f.
-      subst (λ (x : GainBias). (gain_bias_model.answer (gain_bias_model.started x (value_near (pos 100)) pv (value_near (pos 40))) (value_near (pos 101)) pv out).raw ≡ pos 41)
+      subst (λ (x : GainBias). (gain_bias_model.answer (gain_bias_model.started x (record { sp = value_near (pos 100); pv = pv; out = value_near (pos 40) })) (record { sp = value_near (pos 101); pv = pv; out = out })).raw ≡ pos 41)
       (gain_bias_fresh s 1500 f) refl;
 }

@@ -1,38 +1,37 @@
--- A gain times a number: how far it goes, and that widening both changes nothing. Assumes nothing.
-use Rattle.std.proofs.Common.{◌≡◌, ℕ, zero, suc, ◌+◌, ◌*◌, ◌^◌, ◌<◌, ◌≤◌, ℤ, pos, negsuc, ◌+ℤ◌, ◌*ℤ◌, neg_ℤ, sym, ap, ◌∙◌, subst, mul-le-mul, arith, w64, SFits, to_z, of_z}
+-- A gain times a number: how far it goes, what it makes of a difference, and the sum of such products. Assumes nothing.
+use Rattle.std.proofs.Common.{◌≡◌, ℕ, zero, suc, ◌*◌, ◌^◌, ◌<◌, ◌≤◌, ℤ, pos, ◌-ℤ◌, ◌*ℤ◌, mul-le-mul, unsigned_abs, w64, SFits, to_z, of_z, ◌+ℤ◌, ap, ◌∙◌, arith}
 use Rattle.std.specs.Int.Signed.{mag}
-use Rattle.std.proofs.lemmas.Int.{ints, to_z-of_z, to_z_pos}
+use Rattle.std.proofs.Math.IntN.{zero-*ℤ, suc_ℤ-*ℤ}
+use Rattle.std.proofs.lemmas.Int.{ints, unsigned_abs-mul}
 
-mag_negative : (n : ℕ) → mag (neg_ℤ (pos n)) ≤ n
-mag_negative zero = omega arith
-mag_negative (suc n) = omega arith
+pub scaled_bound : (g : ℕ) (z : ℤ) → g < 2 ^ 16 → unsigned_abs (pos g *ℤ z) ≤ 65536 * unsigned_abs z
+scaled_bound g z h =
+    let m : g * unsigned_abs z ≤ 65536 * unsigned_abs z = mul-le-mul {n₂ = 65536} {m₂ = unsigned_abs z} (omega arith) (omega arith) in
+    omega (arith, unsigned_abs-mul (pos g) z)
 
-pub scaled_bound : (g : ℕ) (z : ℤ) → g < 2 ^ 16 → mag (pos g *ℤ z) ≤ 65536 * (mag z + 1)
-scaled_bound g (pos n) h = mul-le-mul {n₂ = 65536} {m₂ = n + 1} (omega arith) (omega arith)
-scaled_bound g (negsuc n) h =
-    let m : g * suc n ≤ 65536 * (n + 1) = mul-le-mul {n₂ = 65536} {m₂ = n + 1} (omega arith) (omega arith) in
-    omega (arith, mag_negative (g * suc n))
+pub scaled_difference : (g : ℕ) (a b : ℤ) → pos g *ℤ (a -ℤ b) ≡ pos g *ℤ a -ℤ pos g *ℤ b
+scaled_difference zero a b = omega (arith, ints, zero-*ℤ (a -ℤ b), zero-*ℤ a, zero-*ℤ b)
+scaled_difference (suc g) a b =
+    omega (arith, ints, scaled_difference g a b, suc_ℤ-*ℤ (pos g) (a -ℤ b), suc_ℤ-*ℤ (pos g) a, suc_ℤ-*ℤ (pos g) b)
 
-module _ (g : ℕ) (z : ℤ) (h : g < 2 ^ 16) (f : SFits w64 z) (b : mag z < 2 ^ 40) where
-  widened : to_z w64 g *ℤ to_z w64 (of_z w64 z) ≡ pos g *ℤ z
-  widened = λ i. to_z_pos w64 g (omega arith) i *ℤ to_z-of_z w64 z f i
+-- a law's sum, each part of it narrow enough
+module _ (a b c : ℤ) (ha : mag a < 2 ^ 57) (hb : mag b < 2 ^ 57) (hc : mag c < 2 ^ 57) where
+  pub parts_fit : SFits w64 (to_z w64 (of_z w64 (to_z w64 (of_z w64 a) -ℤ to_z w64 (of_z w64 b))) +ℤ to_z w64 (of_z w64 c))
+  parts_fit = omega (arith, ints)
 
-  pub scaled_fits : SFits w64 (to_z w64 g *ℤ to_z w64 (of_z w64 z))
-  scaled_fits = subst (SFits w64) (sym widened) record { sfits = omega (arith, scaled_bound g z h) }
+  pub sum_fits : (r : ℤ) → mag r < 2 ^ 16
+      → SFits w64 (to_z w64 (of_z w64 (to_z w64 (of_z w64 (to_z w64 (of_z w64 a) -ℤ to_z w64 (of_z w64 b))) +ℤ to_z w64 (of_z w64 c))) +ℤ to_z w64 (of_z w64 r))
+  sum_fits r h = omega (arith, ints)
 
-  pub scaled : to_z w64 (of_z w64 (to_z w64 g *ℤ to_z w64 (of_z w64 z))) ≡ pos g *ℤ z
-  scaled = to_z-of_z w64 _ scaled_fits ∙ widened
+  pub summed : (r : ℤ) → mag r < 2 ^ 16
+      → to_z w64 (of_z w64 (to_z w64 (of_z w64 (to_z w64 (of_z w64 (to_z w64 (of_z w64 a) -ℤ to_z w64 (of_z w64 b))) +ℤ to_z w64 (of_z w64 c))) +ℤ to_z w64 (of_z w64 r)))
+      ≡ a -ℤ b +ℤ c +ℤ r
+  summed r h = omega (arith, ints)
 
 pub scaled_same : (r z z' : ℤ) (g : ℕ) → r ≡ pos g *ℤ z → z ≡ z' → r ≡ pos g *ℤ z'
 scaled_same r z z' g e h = e ∙ ap (λ (x : ℤ). pos g *ℤ x) h
 
--- a law's sum, each part of it narrow enough
-module _ (a b : ℤ) (ha : mag a < 2 ^ 57) (hb : mag b < 2 ^ 57) where
-  pub both_fit : SFits w64 (to_z w64 (of_z w64 a) +ℤ to_z w64 (of_z w64 b))
-  both_fit = omega (arith, ints)
-
-  pub sum_fits : (r : ℕ) → r < 2 ^ 16 → SFits w64 (to_z w64 (of_z w64 (to_z w64 (of_z w64 a) +ℤ to_z w64 (of_z w64 b))) +ℤ to_z w64 r)
-  sum_fits r h = omega (arith, ints)
-
-  pub summed : (r : ℕ) → r < 2 ^ 16 → to_z w64 (of_z w64 (to_z w64 (of_z w64 (to_z w64 (of_z w64 a) +ℤ to_z w64 (of_z w64 b))) +ℤ to_z w64 r)) ≡ a +ℤ b +ℤ pos r
-  summed r h = omega (arith, ints)
+-- the gain on a change, the other gain on what was reached, and a rest
+pub sum_is : (p i n : ℕ) (e l a b c r : ℤ) → a ≡ pos p *ℤ e → b ≡ pos p *ℤ l → c ≡ pos i *ℤ e → r ≡ pos n
+    → a -ℤ b +ℤ c +ℤ r ≡ pos p *ℤ (e -ℤ l) +ℤ pos i *ℤ e +ℤ pos n
+sum_is p i n e l a b c r ha hb hc hr = omega (arith, ints, scaled_difference p e l)

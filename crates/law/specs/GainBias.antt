@@ -11,20 +11,21 @@ use Rattle.law.specs.Quotient.{whole_of}
 use Rattle.law.specs.declared.fault.LawFault.{LawFault}
 use Rattle.law.specs.declared.gain_bias.GainBias.{GainBias}
 use Rattle.signal.specs.Value.{value_near}
+use Rattle.signal.specs.declared.kinds.OperatingPoint.{OperatingPoint}
 use Rattle.signal.specs.declared.kinds.Value.{Value}
 
 abbrev pub gained_by : GainBias → Value → ℤ
 gained_by s sp = whole_of (pos s.gain.thousandths *ℤ sp.raw)
 
 -- the bias is not pulled into the range of values, the answer is
-abbrev pub gain_bias_started : GainBias → Value → Value → Value → GainBias
-gain_bias_started s sp pv out = record { gain = s.gain; bias = out.raw -ℤ gained_by s sp }
+abbrev pub gain_bias_started : GainBias → OperatingPoint → GainBias
+gain_bias_started s p = record { gain = s.gain; bias = p.out.raw -ℤ gained_by s p.sp }
 
-abbrev pub gain_bias_answer : GainBias → Value → Value → Value → Value
-gain_bias_answer s sp pv out = value_near (gained_by s sp +ℤ s.bias)
+abbrev pub gain_bias_answer : GainBias → OperatingPoint → Value
+gain_bias_answer s p = value_near (gained_by s p.sp +ℤ s.bias)
 
 abbrev pub gain_bias_model : LawModel GainBias
-gain_bias_model = record { started = gain_bias_started; stepped = λ s sp pv out. s; answer = gain_bias_answer }
+gain_bias_model = record { started = gain_bias_started; stepped = λ s p. s; answer = gain_bias_answer }
 
 pub record FreshGainBias (z : ℤ) (s : GainBias) : Type 0 where
   pub gain_is : pos s.gain.thousandths ≡ z

@@ -4,14 +4,15 @@
 --     LawModel S         what a law does, over all that it is: its numbers and what it keeps, here one S.
 --                        Nothing else fixes what comes next, and nothing is refused
 use Rattle.std.specs.Prelude.{◌≡◌}
+use Rattle.signal.specs.declared.kinds.OperatingPoint.{OperatingPoint}
 use Rattle.signal.specs.declared.kinds.Value.{Value}
 
 pub record LawModel (S : Type 0) : Type 0 where
   -- the law after a start at setpoint, process value and output
-  pub started : S → Value → Value → Value → S
+  pub started : S → OperatingPoint → S
   -- the law after a step with setpoint, process value and the last output, and what that step answers
-  pub stepped : S → Value → Value → Value → S
-  pub answer : S → Value → Value → Value → Value
+  pub stepped : S → OperatingPoint → S
+  pub answer : S → OperatingPoint → Value
 
 pub record LawMeaning {S : Type 0} (m : LawModel S) : Type 0 where
-  pub starting_rule : (s : S) (sp pv out : Value) → sp ≡ pv → m.answer (m.started s sp pv out) sp pv out ≡ out
+  pub starting_rule : (s : S) (p : OperatingPoint) → p.sp ≡ p.pv → m.answer (m.started s p) p ≡ p.out

@@ -2,10 +2,10 @@
 --     pi_model             what it does, over its numbers, the last error and the remainder
 --     PiFrom p i a r       the numbers are taken as they are, or refused since one is out of range
 --     FreshPi p i a s      s has these numbers, and keeps what a start at 0, 0 and 0 leaves
---     error_of a sp pv     the error: setpoint less process value, or the reverse
+--     error_of a p         the error: setpoint less process value, or the reverse
 --     sum_at s e           thousandths to add to the output at the error e: the gain P on the change of the error, the gain I
 --                          on the error, and the remainder
---     pi_sum s sp pv       the same at the error of sp and pv
+--     pi_sum s p           the same at the error of the operating point p
 use Rattle.std.specs.Prelude.{◌≡◌, ℕ, ◌≤◌, ℤ, pos, ◌+ℤ◌, ◌-ℤ◌, ◌*ℤ◌, Ok, Err, Result}
 use Rattle.law.specs.Fault.{law_fault_number}
 use Rattle.law.specs.Gain.{GainNumber}
@@ -16,31 +16,32 @@ use Rattle.law.specs.declared.pi.Action.{Action}
 use Rattle.law.specs.declared.pi.Action.TheVariants.{Reverse, Direct}
 use Rattle.law.specs.declared.pi.Pi.{Pi}
 use Rattle.signal.specs.Value.{value_near}
+use Rattle.signal.specs.declared.kinds.OperatingPoint.{OperatingPoint}
 use Rattle.signal.specs.declared.kinds.Value.{Value}
 
-abbrev pub error_of : Action → Value → Value → ℤ
-error_of Reverse sp pv = sp.raw -ℤ pv.raw
-error_of Direct sp pv = pv.raw -ℤ sp.raw
+abbrev pub error_of : Action → OperatingPoint → ℤ
+error_of Reverse p = p.sp.raw -ℤ p.pv.raw
+error_of Direct p = p.pv.raw -ℤ p.sp.raw
 
 abbrev pub sum_at : Pi → ℤ → ℤ
 sum_at s e = pos s.p.thousandths *ℤ (e -ℤ s.last_error) +ℤ pos s.i.thousandths *ℤ e +ℤ pos s.rest
 
-abbrev pub pi_sum : Pi → Value → Value → ℤ
-pi_sum s sp pv = sum_at s (error_of s.action sp pv)
+abbrev pub pi_sum : Pi → OperatingPoint → ℤ
+pi_sum s p = sum_at s (error_of s.action p)
 
 -- the law with its numbers, and other keeps
 abbrev pub pi_keeping : Pi → ℤ → ℕ → Pi
 pi_keeping s e n = record { p = s.p; i = s.i; action = s.action; last_error = e; rest = n }
 
-abbrev pub pi_started : Pi → Value → Value → Value → Pi
-pi_started s sp pv out = pi_keeping s (error_of s.action sp pv) 0
+abbrev pub pi_started : Pi → OperatingPoint → Pi
+pi_started s p = pi_keeping s (error_of s.action p) 0
 
-abbrev pub pi_stepped : Pi → Value → Value → Value → Pi
-pi_stepped s sp pv out = pi_keeping s (error_of s.action sp pv) (rest_of (pi_sum s sp pv))
+abbrev pub pi_stepped : Pi → OperatingPoint → Pi
+pi_stepped s p = pi_keeping s (error_of s.action p) (rest_of (pi_sum s p))
 
 -- only the answer is pulled into the range of values
-abbrev pub pi_answer : Pi → Value → Value → Value → Value
-pi_answer s sp pv out = value_near (out.raw +ℤ whole_of (pi_sum s sp pv))
+abbrev pub pi_answer : Pi → OperatingPoint → Value
+pi_answer s p = value_near (p.out.raw +ℤ whole_of (pi_sum s p))
 
 abbrev pub pi_model : LawModel Pi
 pi_model = record { started = pi_started; stepped = pi_stepped; answer = pi_answer }

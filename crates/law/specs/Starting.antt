@@ -4,6 +4,7 @@ use Rattle.std.proofs.Common.{sym, ◌∙◌, ap, arith}
 use Rattle.std.proofs.Math.IntN.{*ℤ-zero}
 use Rattle.std.proofs.lemmas.Int.{ints}
 use Rattle.signal.specs.Value.{value_near}
+use Rattle.signal.specs.declared.kinds.OperatingPoint.{OperatingPoint}
 use Rattle.signal.specs.declared.kinds.Value.{Value}
 use Rattle.signal.proofs.Same.{near_itself}
 use Rattle.law.specs.GainBias.{gain_bias_model, gained_by}
@@ -16,9 +17,9 @@ use Rattle.law.specs.declared.pi.Action.TheVariants.{Reverse, Direct}
 answers_output : (out : Value) (z : ℤ) → z ≡ out.raw → value_near z ≡ out
 answers_output out z e = sym (near_itself out ∙ ap value_near (sym e))
 
-error_none : (a : Action) (sp pv : Value) → sp ≡ pv → error_of a sp pv ≡ pos 0
-error_none Reverse sp pv e = let r = ap (λ (v : Value). v.raw) e in omega (arith, ints)
-error_none Direct sp pv e = let r = ap (λ (v : Value). v.raw) e in omega (arith, ints)
+error_none : (a : Action) (p : OperatingPoint) → p.sp ≡ p.pv → error_of a p ≡ pos 0
+error_none Reverse p e = let r = ap (λ (v : Value). v.raw) e in omega (arith, ints)
+error_none Direct p e = let r = ap (λ (v : Value). v.raw) e in omega (arith, ints)
 
 -- no change of the error, no error and no remainder: nothing to add
 sum_none : (p i : ℕ) (e : ℤ) → e ≡ pos 0 → pos p *ℤ (e -ℤ e) +ℤ pos i *ℤ e +ℤ pos 0 ≡ pos 0
@@ -27,11 +28,11 @@ sum_none p i e h =
 
 pub pi_meaning : LawMeaning pi_model
 pi_meaning = record {
-  starting_rule = λ s sp pv out e.
-      let err = error_of s.action sp pv in
-      let none : pi_sum (pi_started s sp pv out) sp pv ≡ pos 0 = sum_none s.p.thousandths s.i.thousandths err (error_none s.action sp pv e) in
-      answers_output out _ (ap (λ (z : ℤ). out.raw +ℤ whole_of z) none ∙ omega (arith, ints));
+  starting_rule = λ s p e.
+      let err = error_of s.action p in
+      let none : pi_sum (pi_started s p) p ≡ pos 0 = sum_none s.p.thousandths s.i.thousandths err (error_none s.action p e) in
+      answers_output p.out _ (ap (λ (z : ℤ). p.out.raw +ℤ whole_of z) none ∙ omega (arith, ints));
 }
 
 pub gain_bias_meaning : LawMeaning gain_bias_model
-gain_bias_meaning = record { starting_rule = λ s sp pv out e. answers_output out (gained_by s sp +ℤ (out.raw -ℤ gained_by s sp)) (omega (arith, ints)) }
+gain_bias_meaning = record { starting_rule = λ s p e. answers_output p.out (gained_by s p.sp +ℤ (p.out.raw -ℤ gained_by s p.sp)) (omega (arith, ints)) }

@@ -1,5 +1,5 @@
 // A law's gain, in thousandths.
-ghost use Rattle.std.specs.Prelude.{◌≡◌, ◌+◌, ◌*◌, ◌^◌, ◌<◌, ◌≤◌, pos, ◌*ℤ◌};
+ghost use Rattle.std.specs.Prelude.{◌≡◌, ◌*◌, ◌^◌, ◌<◌, ◌≤◌, pos, ◌*ℤ◌, unsigned_abs};
 ghost use Rattle.std.specs.Int.Signed.{mag};
 ghost use Rattle.law.specs.Gain.{GainFrom};
 
@@ -10,25 +10,28 @@ pub(crate) struct Gain {
     pub(crate) thousandths: u16,
 }
 
-impl Gain {
-    pub(crate) fn new(number: i32) -> Result<Gain, LawFault>
-        ensures { GainFrom number result }
-    {
-        if number < 0 || 10_000 < number {
-            return Err(LawFault::NumberOutOfRange);
-        }
-        Ok(Gain {
-            thousandths: number as u16,
-        })
-    }
+impl TryFrom<i32> for Gain {
+    type Error = LawFault;
 
+    ghost try_from_gives = { GainFrom };
+
+    fn try_from(number: i32) -> Result<Gain, LawFault> {
+        match number {
+            0..=10_000 => Ok(Gain {
+                thousandths: number as u16,
+            }),
+            _ => Err(LawFault::NumberOutOfRange),
+        }
+    }
+}
+
+impl Gain {
     // Thousandths of what the gain makes of a number.
-    pub(crate) fn times(self, number: i64) -> i64
-        requires { mag number < 2 ^ 40 }
+    pub(crate) fn times(self, number: i32) -> i64
         ensures value { result ≡ pos self.thousandths *ℤ number }
-        ensures bound { mag result ≤ 65536 * (mag number + 1) }
+        ensures bound { unsigned_abs result ≤ 65536 * unsigned_abs number }
         ensures fits { mag result < 2 ^ 57 }
     {
-        self.thousandths as i64 * number
+        i64::from(self.thousandths) * i64::from(number)
     }
 }

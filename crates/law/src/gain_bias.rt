@@ -1,6 +1,5 @@
 // The gain and bias law: a gain on the setpoint, and a bias that is set at the start.
-ghost use Rattle.std.specs.Prelude.{◌≡◌, ◌^◌, ◌<◌, ◌+ℤ◌};
-ghost use Rattle.std.specs.Int.Signed.{mag};
+ghost use Rattle.std.specs.Prelude.{◌≡◌, ◌^◌, ◌<◌, ◌+ℤ◌, unsigned_abs};
 ghost use Rattle.signal.specs.Value.{value_near};
 ghost use Rattle.law.specs.GainBias.{GainBiasFrom, gained_by, gain_bias_model};
 ghost use Rattle.law.specs.Starting.{gain_bias_meaning};
@@ -9,7 +8,7 @@ use crate::fault::LawFault;
 use crate::gain::Gain;
 use crate::law::Law;
 use crate::quotient::floored;
-use signal::Value;
+use signal::{OperatingPoint, Value};
 
 #[derive(Drop)]
 pub struct GainBias {
@@ -23,7 +22,7 @@ impl GainBias {
         ensures { GainBiasFrom gain result }
     {
         Ok(GainBias {
-            gain: Gain::new(gain)?,
+            gain: Gain::try_from(gain)?,
             bias: 0,
         })
     }
@@ -31,15 +30,15 @@ impl GainBias {
     // The setpoint times the gain, rounded down.
     fn gained(&self, sp: Value) -> i32
         ensures value { result ≡ gained_by self.now sp }
-        ensures bound { mag result < 2 ^ 30 }
+        ensures bound { unsigned_abs result < 2 ^ 30 }
     {
-        floored(self.gain.times(sp.raw() as i64)).whole as i32
+        floored(self.gain.times(sp.raw())).whole as i32
     }
 
     fn answer(&self, sp: Value) -> Value
         ensures { result ≡ value_near (gained_by self.now sp +ℤ self.now.bias) }
     {
-        Value::pulled_from(self.gained(sp) as i64 + self.bias as i64)
+        Value::pulled_in(i64::from(self.gained(sp)) + i64::from(self.bias))
     }
 }
 
@@ -49,11 +48,11 @@ impl Law for GainBias {
     ghost meaning = { gain_bias_meaning };
 
     // The bias is not pulled in: at the ends of the range the first answer would not be the output.
-    fn start(&mut self, sp: Value, pv: Value, out: Value) {
-        self.bias = out.raw() - self.gained(sp);
+    fn start(&mut self, at: OperatingPoint) {
+        self.bias = at.out.raw() - self.gained(at.sp);
     }
 
-    fn step(&mut self, sp: Value, pv: Value, out: Value) -> Value {
-        self.answer(sp)
+    fn step(&mut self, at: OperatingPoint) -> Value {
+        self.answer(at.sp)
     }
 }

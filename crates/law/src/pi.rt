@@ -7,7 +7,7 @@ use crate::fault::LawFault;
 use crate::gain::Gain;
 use crate::law::Law;
 use crate::quotient::floored;
-use signal::Value;
+use signal::{OperatingPoint, Value};
 
 // Which way the error is taken: SP - PV, or PV - SP.
 #[derive(Clone, Copy)]
@@ -25,23 +25,27 @@ pub struct Pi {
     rest: u16,
 }
 
-impl Action {
-    fn new(number: u8) -> Result<Action, LawFault>
-        ensures { ActionFrom number result }
-    {
+impl TryFrom<u8> for Action {
+    type Error = LawFault;
+
+    ghost try_from_gives = { ActionFrom };
+
+    fn try_from(number: u8) -> Result<Action, LawFault> {
         match number {
             0 => Ok(Action::Reverse),
             1 => Ok(Action::Direct),
             _ => Err(LawFault::NumberOutOfRange),
         }
     }
+}
 
-    fn error(self, sp: Value, pv: Value) -> i32
-        ensures { result ≡ error_of self sp pv }
+impl Action {
+    fn error(self, at: OperatingPoint) -> i32
+        ensures { result ≡ error_of self at }
     {
         match self {
-            Action::Reverse => sp.raw() - pv.raw(),
-            Action::Direct => pv.raw() - sp.raw(),
+            Action::Reverse => at.sp.raw() - at.pv.raw(),
+            Action::Direct => at.pv.raw() - at.sp.raw(),
         }
     }
 }
@@ -52,9 +56,9 @@ impl Pi {
         ensures { PiFrom p i action result }
     {
         Ok(Pi {
-            p: Gain::new(p)?,
-            i: Gain::new(i)?,
-            action: Action::new(action)?,
+            p: Gain::try_from(p)?,
+            i: Gain::try_from(i)?,
+            action: Action::try_from(action)?,
             last_error: 0,
             rest: 0,
         })
@@ -64,9 +68,9 @@ impl Pi {
     fn sum(&self, error: i32) -> i64
         ensures { result ≡ sum_at self.now error }
     {
-        self.p.times(error as i64 - self.last_error as i64)
-            + self.i.times(error as i64)
-            + self.rest as i64
+        self.p.times(error) - self.p.times(self.last_error)
+            + self.i.times(error)
+            + i64::from(self.rest)
     }
 }
 
@@ -75,17 +79,17 @@ impl Law for Pi {
 
     ghost meaning = { pi_meaning };
 
-    fn start(&mut self, sp: Value, pv: Value, out: Value) {
-        self.last_error = self.action.error(sp, pv);
+    fn start(&mut self, at: OperatingPoint) {
+        self.last_error = self.action.error(at);
         self.rest = 0;
     }
 
     // Only the answer is pulled in: what is kept is kept as it came.
-    fn step(&mut self, sp: Value, pv: Value, out: Value) -> Value {
-        let error = self.action.error(sp, pv);
+    fn step(&mut self, at: OperatingPoint) -> Value {
+        let error = self.action.error(at);
         let quotient = floored(self.sum(error));
         self.last_error = error;
         self.rest = quotient.rest;
-        quotient.added_to(out)
+        quotient.added_to(at.out)
     }
 }

@@ -1,6 +1,5 @@
 // A law's sum divided by 1,000 and rounded down.
-ghost use Rattle.std.specs.Prelude.{◌≡◌, ◌^◌, ◌<◌, ◌+ℤ◌};
-ghost use Rattle.std.specs.Int.Signed.{mag};
+ghost use Rattle.std.specs.Prelude.{◌≡◌, ◌+ℤ◌};
 ghost use Rattle.signal.specs.Value.{value_near};
 ghost use Rattle.law.specs.Quotient.{Floored, OneQuotient, whole_of, rest_of};
 
@@ -12,20 +11,12 @@ pub struct Quotient {
     pub rest: u16,
 }
 
+// The only place where a law's quotient is taken.
 pub fn floored(t: i64) -> Quotient
     ensures floored { Floored t result.whole result.rest }
     ensures whole { result.whole ≡ whole_of t }
     ensures rest { result.rest ≡ rest_of t }
     ensures only { OneQuotient }
-{
-    divided(t)
-}
-
-// The only place where a law's quotient is taken.
-fn divided(t: i64) -> Quotient
-    ensures floored { Floored t result.whole result.rest }
-    ensures whole { result.whole ≡ whole_of t }
-    ensures rest { result.rest ≡ rest_of t }
 {
     Quotient {
         whole: t.div_euclid(1_000),
@@ -34,11 +25,10 @@ fn divided(t: i64) -> Quotient
 }
 
 impl Quotient {
-    // Only the answer is pulled in.
+    // Only the answer is pulled in. A sum past 64 bits is past the range of values too.
     pub(crate) fn added_to(self, out: Value) -> Value
-        requires { mag self.whole < 2 ^ 62 }
         ensures { result ≡ value_near (out.raw +ℤ self.whole) }
     {
-        Value::pulled_from(out.raw() as i64 + self.whole)
+        Value::pulled_in(i64::from(out.raw()).saturating_add(self.whole))
     }
 }

@@ -1,32 +1,31 @@
--- A search for a name in a table of rows, one row after the other. Assumes nothing.
-use Rattle.std.proofs.Common.{◌≡◌, ℕ, ◌+◌, ◌<◌, ◌≤◌, false, ◌&&◌, eqb, List, map, length, get_or, drop, Some, None, sym, ap, ◌∙◌, add-one, arith, drop-cons, Bor}
-use Rattle.std.proofs.lemmas.List.{at_drop_all}
-use Rattle.std.proofs.lemmas.Bool.{cond-true, cond-false, eq-eqb, and_from}
-use Rattle.std.proofs.lemmas.Bool.Decides.{nat_tests}
+-- A search for a name in a table of rows is the library's search for a row. Assumes nothing.
+use Rattle.std.proofs.Common.{◌≡◌, ap, ◌∙◌, Option, None, MatchOption, ℕ, Bool, true, false, cond, ◌==◌, ◌&&◌, List, [], ◌∷◌, map, Some, refl, Bor}
+use Rattle.std.specs.List.{find}
+use Rattle.std.specs.Option.{option_map}
 use Rattle.signal.specs.Codes.{row_of, name_in}
+use Rattle.signal.specs.Status.{quality_number}
+use Rattle.signal.specs.declared.status.Quality.{Quality}
 
 abbrev pub Row : Type 0
-Row = ℕ × ℕ × Bor (List ℕ)
+Row = Quality × ℕ × Bor (List ℕ)
 
--- the rows before i have no such name
-abbrev pub Sofar : List Row → ℕ → ℕ → ℕ → Type 0
-Sofar rows i q s = name_in (map row_of rows) q s ≡ name_in (map row_of (drop i rows)) q s
+-- the row has this quality and sub-status
+abbrev pub is_row : Quality → ℕ → Row → Bool
+is_row q s row = quality_number row.0 == quality_number q && row.1 == s
 
-module _ (rows : List Row) (q s : ℕ) where
-  pub naming_found : (i : ℕ) (d : Row) → i < length rows → Sofar rows i q s
-      → (get_or rows i d).0 ≡ q → (get_or rows i d).1 ≡ s → Some (get_or rows i d).2.now ≡ name_in (map row_of rows) q s
-  naming_found i d h inv a b =
-      let e = drop-cons rows i d h in
-      sym (inv ∙ ap (λ (xs : List Row). name_in (map row_of xs) q s) e
-      ∙ cond-true (eqb (get_or rows i d).0 q && eqb (get_or rows i d).1 s) _ _ (and_from _ _ (eq-eqb _ _ a) (eq-eqb _ _ b)))
+abbrev name_of : Row → List ℕ
+name_of row = row.2.now
 
-  pub naming_more : (i : ℕ) (d : Row) → i < length rows → Sofar rows i q s
-      → ((get_or rows i d).0 ≡ q → (get_or rows i d).1 ≡ s → ⊥) → Sofar rows (i + 1) q s
-  naming_more i d h inv miss =
-      let e = drop-cons rows i d h in
-      let f : (eqb (get_or rows i d).0 q && eqb (get_or rows i d).1 s) ≡ false = grind (arith, nat_tests) in
-      rw add-one
-      (inv ∙ ap (λ (xs : List Row). name_in (map row_of xs) q s) e ∙ cond-false (eqb (get_or rows i d).0 q && eqb (get_or rows i d).1 s) _ _ f)
+pub name_found : (rows : List Row) (q : Quality) (s : ℕ)
+    → option_map name_of (find (is_row q s) rows) ≡ name_in (map row_of rows) (quality_number q) s
+name_found [] q s = refl
+name_found (row ∷ rows) q s =
+    elim (is_row q s row) as (λ b. option_map name_of (cond b (Some row) (find (is_row q s) rows)) ≡ cond b (Some (name_of row)) (name_in (map row_of rows) (quality_number q) s))
+    [ true ↦ refl | false ↦ name_found rows q s ]
 
-  pub naming_none : (i : ℕ) → length rows ≤ i → Sofar rows i q s → None ≡ name_in (map row_of rows) q s
-  naming_none i h inv = sym (inv ∙ at_drop_all (λ (xs : List Row). name_in (map row_of xs) q s) rows i h)
+-- a name that is taken out of the row that was found
+pub name_mapped : (o : Option (Bor Row)) (n : Option (Bor (List ℕ))) (found : Option Row)
+    → MatchOption o (n ≡ None) (λ r. n ≡ Some r.now.2) → option_map (λ (r : Bor Row). r.now) o ≡ found
+    → option_map (λ (x : Bor (List ℕ)). x.now) n ≡ option_map name_of found
+name_mapped None n found m e = ap (option_map (λ (x : Bor (List ℕ)). x.now)) m ∙ ap (option_map name_of) e
+name_mapped (Some r) n found m e = ap (option_map (λ (x : Bor (List ℕ)). x.now)) m ∙ ap (option_map name_of) e

@@ -1,9 +1,7 @@
--- Only one number from low to high is nearest to v, and a number that was narrowed to 32 bits first has the same one. Assumes nothing.
-use Rattle.std.proofs.Common.{◌≡◌, ◌⊎◌, ℤ, ◌≤ℤ◌, pos, negsuc, inl, inr, arith}
-use Rattle.std.proofs.lemmas.Int.{ints, clamps}
-use Rattle.std.specs.Int.{int_max, int_min}
-use Rattle.signal.specs.Nearest.{Nearest, OneNearest}
-use Rattle.signal.specs.Value.{in_range}
+-- Only one number from low to high is nearest to v; `nearest_to` is it. Assumes nothing.
+use Rattle.std.proofs.Common.{◌≡◌, ◌⊎◌, ℤ, ◌≤ℤ◌, inl, inr, arith}
+use Rattle.std.proofs.lemmas.Int.{ints}
+use Rattle.signal.specs.Nearest.{Nearest, OneNearest, nearest_to}
 
 between_both : (v r s : ℤ)
     → ((v ≤ℤ r) × (r ≤ℤ s)) ⊎ ((s ≤ℤ r) × (r ≤ℤ v))
@@ -18,17 +16,13 @@ pub one_nearest : OneNearest
 one_nearest low high v r s p q =
     between_both v r s (p.between s q.inside.0 q.inside.1) (q.between r p.inside.0 p.inside.1)
 
--- the ends of 32 bits lie outside the range of values
-pub narrowed_first : (z : ℤ) → in_range (int_max (negsuc 2147483647) (int_min z (pos 2147483647))) ≡ in_range z
-narrowed_first z = grind (arith, ints, clamps)
+side : (low high z x : ℤ) → low ≤ℤ x → x ≤ℤ high
+    → ((z ≤ℤ nearest_to low high z) × (nearest_to low high z ≤ℤ x)) ⊎ ((x ≤ℤ nearest_to low high z) × (nearest_to low high z ≤ℤ z))
+side low high z x p q = grind (arith, ints)
 
-side : (z x : ℤ) → negsuc 999999 ≤ℤ x → x ≤ℤ pos 1000000
-    → ((z ≤ℤ in_range z) × (in_range z ≤ℤ x)) ⊎ ((x ≤ℤ in_range z) × (in_range z ≤ℤ z))
-side z x p q = grind (arith, ints)
-
-pub in_range_nearest : (z : ℤ) → Nearest (negsuc 999999) (pos 1000000) z (in_range z)
-in_range_nearest z = record {
+pub nearest_to_is : (low high z : ℤ) → low ≤ℤ high → Nearest low high z (nearest_to low high z)
+nearest_to_is low high z o = record {
   inside = (grind (arith, ints), grind (arith, ints));
   itself = λ p q. grind (arith, ints);
-  between = side z;
+  between = side low high z;
 }

@@ -2,6 +2,7 @@
 --     code_name b    the published name of the byte b, its limit bits left out; none where none is published
 use Rattle.std.specs.Borrow.{Bor}
 use Rattle.std.specs.Prelude.{ℕ, ◌/◌, ◌%◌, cond, ◌&&◌, List, [], ◌∷◌, Some, None, codes, Option, ◌==◌}
+use Rattle.signal.specs.Status.{quality_number}
 use Rattle.signal.specs.declared.status.Quality.{Quality}
 use Rattle.signal.specs.declared.status.Quality.TheVariants.{Bad, Uncertain, Good, GoodCascade}
 
@@ -52,8 +53,8 @@ name_in [] q s = None
 name_in (row ∷ rows) q s = cond (row.0 == q && row.1 == s) (Some row.2) (name_in rows q s)
 
 -- a row of the program's table
-abbrev pub row_of : (ℕ × ℕ × Bor (List ℕ)) → (ℕ × ℕ × List ℕ)
-row_of row = (row.0, row.1, row.2.now)
+abbrev pub row_of : (Quality × ℕ × Bor (List ℕ)) → (ℕ × ℕ × List ℕ)
+row_of row = (quality_number row.0, row.1, row.2.now)
 
 unfoldable pub code_name : ℕ → Option (List ℕ)
 code_name b = name_in published (b / 64) (b / 4 % 16)

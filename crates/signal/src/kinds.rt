@@ -2,11 +2,19 @@
 ghost use Rattle.std.specs.Prelude.{pos, negsuc, ◌≤ℤ◌};
 
 // Thousandths of a percent of span, from -1,000,000 to 1,000,000.
-#[derive(Clone, Copy)]
+#[derive(Clone, Copy, Debug, PartialEq, Eq, PartialOrd, Ord)]
 pub struct Value {
     pub(crate) raw: i32,
     ghost low: { negsuc 999999 ≤ℤ raw },
     ghost high: { raw ≤ℤ pos 1000000 },
+}
+
+// Where a loop stands: setpoint, process value and output.
+#[derive(Clone, Copy)]
+pub struct OperatingPoint {
+    pub sp: Value,
+    pub pv: Value,
+    pub out: Value,
 }
 
 // Two ends, the lower one first.

@@ -2,6 +2,7 @@
 ghost use Rattle.std.specs.Prelude.{◌≡◌, Some, None, MatchResult};
 ghost use Rattle.signal.specs.Mode.{mode_byte, mode_word, mode_shows, target_fault_number, TargetFrom, target_of};
 
+use crate::numbered::Numbered;
 use crate::status::Status;
 
 #[derive(Clone, Copy, Debug, PartialEq, Eq)]
@@ -14,20 +15,20 @@ pub enum Mode {
     Cas,
 }
 
-// What brought a block into LO.
+// What brought a block into LO. It stands beside the mode and not inside it, since the tables are indexed by the mode.
 #[derive(Clone, Copy, Debug, PartialEq, Eq)]
 pub enum LoCause {
     Switch,
     Fault,
 }
 
-// Why a byte is no target. A number, once given out, keeps its meaning.
+// Why a byte is no target.
 #[derive(Clone, Copy, Debug, PartialEq, Eq)]
 pub enum TargetFault {
     NotATarget = 3,
 }
 
-// The tables stand in the order of the modes.
+// The tables stand in the order of the modes. A word is a byte string, since it goes into a line of bytes.
 const MODE_BYTES: [u8; 6] = [0x80, 0x40, 0x20, 0x10, 0x08, 0x04];
 
 const MODE_WORDS: [&'static [u8]; 6] = [b"OS", b"IMAN", b"LO", b"MAN", b"AUTO", b"CAS"];
@@ -42,10 +43,10 @@ const MODE_SHOWS: [[Status; 2]; 6] = [
     [Status::LINKED, Status::LINKED],
 ];
 
-impl TargetFault {
-    pub fn number(self) -> u8
-        ensures { result ≡ target_fault_number self }
-    {
+impl Numbered for TargetFault {
+    ghost number_of = { target_fault_number };
+
+    fn number(self) -> u8 {
         self as u8
     }
 }
@@ -71,19 +72,18 @@ impl Mode {
             Mode::Auto => target == Mode::Cas,
             _ => false,
         };
-        MODE_SHOWS[self as usize][second as usize]
+        MODE_SHOWS[self as usize][usize::from(second)]
     }
 
-    // IMAN and LO are never asked for: a block comes into them by itself.
+    // IMAN and LO are never asked for: a block comes into them by itself. It is no `TryFrom`: a byte may also be that of any
+    // mode, or of several, and the name says which is meant.
     pub fn from_target(byte: u8) -> Result<Mode, TargetFault>
         ensures from { TargetFrom byte result }
         ensures value { MatchResult result (λ m. target_of byte ≡ Some m) (λ _. target_of byte ≡ None) }
     {
-        for mode in [Mode::OutOfService, Mode::Man, Mode::Auto, Mode::Cas] {
-            if byte == mode.byte() {
-                return Ok(mode);
-            }
-        }
-        Err(TargetFault::NotATarget)
+        [Mode::OutOfService, Mode::Man, Mode::Auto, Mode::Cas]
+            .into_iter()
+            .find(|mode| mode.byte() == byte)
+            .ok_or(TargetFault::NotATarget)
     }
 }

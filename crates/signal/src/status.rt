@@ -5,6 +5,7 @@ ghost use Rattle.signal.specs.Status.{same_code, quality_of, quality_number, par
 ghost use Rattle.signal.specs.Status.{PartsFit, joined_byte, split_byte, JoinedFrom, JoinAfterSplit, SplitAfterJoin};
 
 use crate::kinds::Value;
+use crate::numbered::Numbered;
 
 // Any byte is a status. It has no `==`: a comparison with a code is `is`.
 #[derive(Clone, Copy, Debug)]
@@ -19,7 +20,8 @@ pub enum Quality {
     GoodCascade,
 }
 
-// A status byte in parts: 2 bits of quality, 4 of sub-status, 2 of limits.
+// A status byte in parts: 2 bits of quality, 4 of sub-status, 2 of limits. The quality is a number and no `Quality`, since
+// any three bytes are parts: joining names the first that is too wide.
 #[derive(Clone, Copy, Debug, PartialEq, Eq)]
 pub struct Parts {
     pub quality: u8,
@@ -126,15 +128,17 @@ impl Part {
     }
 }
 
-impl PartFault {
-    pub fn number(self) -> u8
-        ensures { result ≡ part_fault_number self }
-    {
+impl Numbered for PartFault {
+    ghost number_of = { part_fault_number };
+
+    fn number(self) -> u8 {
         match self {
             PartFault::TooWide(_) => 9,
         }
     }
+}
 
+impl PartFault {
     pub fn place(self) -> u8
         ensures { result ≡ part_fault_place self }
     {

@@ -4,30 +4,33 @@ ghost use Rattle.signal.specs.Nearest.{Nearest};
 ghost use Rattle.signal.specs.Value.{value_fault_number, ValueFrom, value_near};
 
 use crate::kinds::{Limits, Value};
+use crate::numbered::Numbered;
 
 // The ends of the range, in thousandths of a percent of span.
 pub(crate) const LEAST: i32 = -1_000_000;
 
 pub(crate) const GREATEST: i32 = 1_000_000;
 
-// Why a number is no value. A number, once given out, keeps its meaning.
+// Why a number is no value.
 #[derive(Clone, Copy, Debug, PartialEq, Eq)]
 pub enum ValueFault {
     OutOfRange = 2,
 }
 
-impl ValueFault {
-    pub fn number(self) -> u8
-        ensures { result ≡ value_fault_number self }
-    {
+impl Numbered for ValueFault {
+    ghost number_of = { value_fault_number };
+
+    fn number(self) -> u8 {
         self as u8
     }
 }
 
-impl Value {
-    pub const ZERO: Value = Value { raw: 0 };
+impl TryFrom<i32> for Value {
+    type Error = ValueFault;
 
-    pub fn new(raw: i32) -> Result<Value, ValueFault>
+    ghost try_from_gives = { λ raw r. ValueFrom raw r × IfOk r (λ v. v ≡ value_near raw) };
+
+    fn try_from(raw: i32) -> Result<Value, ValueFault>
         ensures from { ValueFrom raw result }
         ensures near { IfOk result (λ v. v ≡ value_near raw) }
     {
@@ -36,20 +39,17 @@ impl Value {
         }
         Ok(Value { raw })
     }
+}
 
-    pub fn pulled_in(raw: i32) -> Value
-        ensures nearest { Nearest (negsuc 999999) (pos 1000000) raw result.raw }
-        ensures value { result ≡ value_near raw }
-    {
-        Limits::RANGE.nearest(raw)
-    }
+impl Value {
+    pub const ZERO: Value = Value { raw: 0 };
 
-    // The number may be wider than 32 bits: a law's sum is. It is narrowed here, and pulled by `pulled_in` alone.
-    pub fn pulled_from(raw: i64) -> Value
-        ensures nearest { Nearest (negsuc 999999) (pos 1000000) raw result.raw }
-        ensures value { result ≡ value_near raw }
+    // A number of any signed width: a law's sum is wider than a value.
+    pub fn pulled_in<N: Into<i64>>(raw: N) -> Value
+        ensures nearest { (z : _) × N.converts raw z × Nearest (negsuc 999999) (pos 1000000) z result.raw }
+        ensures value { (z : _) × N.converts raw z × (result ≡ value_near z) }
     {
-        Value::pulled_in(raw.clamp(i32::MIN as i64, i32::MAX as i64) as i32)
+        Limits::RANGE.nearest(raw.into())
     }
 
     pub fn raw(self) -> i32

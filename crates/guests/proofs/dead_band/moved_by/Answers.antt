@@ -1,8 +1,11 @@
 -- The sum in 64 bits is the sum that the clause names.
-use Rattle.std.proofs.Common.{◌+ℤ◌, arith}
+use Rattle.std.proofs.Common.{◌≡◌, ◌+ℤ◌, ap, ◌∙◌, arith}
 use Rattle.std.proofs.lemmas.Int.{ints}
-use Rattle.law.proofs.Near.{pulled_same}
+use Rattle.signal.specs.Value.{value_near}
 use Rattle.guests.proofs.dead_band.moved_by.Goals as goal
 
 pub returns : goal.returns
-returns c = pulled_same _ _ (c.args.out.raw +ℤ c.args.error) c.pulled_from.ensures (omega (arith, ints))
+returns c =
+    let v = c.pulled_in.ensures.value in
+    let e : v.0 ≡ c.args.out.raw +ℤ c.args.error = omega (arith, ints) in
+    v.2 ∙ ap value_near e

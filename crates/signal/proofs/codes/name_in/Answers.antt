@@ -1,18 +1,10 @@
-use Rattle.signal.proofs.Naming.{naming_found, naming_more, naming_none}
+use Rattle.std.proofs.Common.{◌∙◌, rules, tests}
+use Rattle.std.proofs.lemmas.Iterator.{YieldsList-from_slice}
+use Rattle.std.proofs.lemmas.Iterator.Search.{find_from_yields_List}
+use Rattle.signal.proofs.Naming.{is_row, name_found, name_mapped}
 use Rattle.signal.proofs.codes.name_in.Goals as goal
-use Rattle.signal.proofs.codes.name_in.Goals.{else-row-quality-via-then-row-quality+else-row-sub_status, else-row-quality-via-else-row-quality}
-
-pub returns-then-row-sub_status : goal.returns-then-row-sub_status
-returns-then-row-sub_status c =
-    naming_found _ _ _ _ _ c.loop-row-test.true c.loop-row.invariant c.if-row-quality.true c.if-row-sub_status.true
-
-pub loop-row-preserved : goal.loop-row-preserved
-loop-row-preserved c =
-    naming_more _ _ _ _ _ c.loop-row-test.true c.loop-row.invariant
-    (elim c.else-row-quality.branch [
-      | else-row-quality-via-then-row-quality+else-row-sub_status w ↦ λ _ b. w.if-row-sub_status.false b
-      | else-row-quality-via-else-row-quality w ↦ λ a _. w.if-row-quality.false a
-    ])
 
 pub returns : goal.returns
-returns c = naming_none _ _ _ _ c.loop-row-test.false c.loop-row.invariant
+returns c =
+    let found = find_from_yields_List (is_row c.args.quality c.args.sub_status) _ _ c.find.result c.find.ensures.ran (YieldsList-from_slice c.args.rows.now c.iter.ensures.rest) (λ x b q k. search (rules, tests)) in
+    name_mapped _ _ _ (search rules) found ∙ name_found c.args.rows.now c.args.quality c.args.sub_status

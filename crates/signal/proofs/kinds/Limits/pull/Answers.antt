@@ -3,6 +3,8 @@ use Rattle.signal.proofs.Nearest.{one_nearest}
 use Rattle.signal.proofs.Same.{is_pulled}
 use Rattle.signal.proofs.kinds.Limits.pull.Goals as goal
 
-pub returns : goal.returns
-returns c =
-    record { nearest = search rules; value = is_pulled c.args.self c.args.v _ (search rules); only = one_nearest }
+pub returns-clause-value : goal.returns-clause-value
+returns-clause-value c = is_pulled c.args.self c.args.v _ (search rules)
+
+pub returns-clause-only : goal.returns-clause-only
+returns-clause-only c = one_nearest

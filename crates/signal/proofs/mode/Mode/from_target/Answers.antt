@@ -1,8 +1,9 @@
-use Rattle.std.proofs.Common.{refl, arith}
-use Rattle.signal.proofs.Targets.{no_target, target_none}
+use Rattle.std.proofs.Common.{rules}
+use Rattle.signal.proofs.Targets.{target_from}
 use Rattle.signal.proofs.mode.Mode.from_target.Goals as goal
 
-pub returns : goal.returns
-returns c =
-    let none = no_target _ (λ k h. c.loop-mode.invariant k (omega arith)) in
-    record { from = (refl, none); value = target_none _ none }
+pub returns-clause-value : goal.returns-clause-value
+returns-clause-value c = search rules
+
+pub returns-clause-from : goal.returns-clause-from
+returns-clause-from c = target_from _ _ (returns-clause-value c)
