@@ -75,7 +75,7 @@ module _ {S : Type 0} (o : Own S) where
         → (o.the_block (o.rounded s c)).actual ≡ Lo → (o.the_block s).switch ≡ true → (o.the_block (o.rounded s c)).cause ≡ Switch
     pub keeps_sp : (s : S) (c : Signal) → o.kept s
         → (o.the_block s).actual ≢ Cas → (o.the_block (o.rounded s c)).actual ≡ Cas
-        → c.value ≡ (o.the_block s).sp → (o.the_block (o.rounded s c)).sp ≡ (o.the_block s).sp
+        → c.value ≡ (o.the_block s).at.sp → (o.the_block (o.rounded s c)).at.sp ≡ (o.the_block s).at.sp
     pub number_range : (1 ≤ o.number) × (o.number ≤ 1000)
     pub near : (m : Mode) (hides : Bool) → o.away m hides ≤ o.number
     pub there : (m : Mode) (hides : Bool) → o.away m hides ≡ 0 → m ≡ Cas

@@ -20,7 +20,7 @@ pub record Standing (b d : Block) : Type 0 where
   pub has_input : is_some d.input ≡ is_some b.input
   pub actual : d.actual ≡ b.actual
   pub cause : d.cause ≡ b.cause
-  pub pv : d.pv ≡ b.pv
+  pub pv : d.at.pv ≡ b.at.pv
   pub hides : d.hides_request ≡ b.hides_request
 
 standing_same : (b : Block) → Standing b b
@@ -61,42 +61,33 @@ refused_same_at b a r (Some x) e = refl
 pub refused_same : (b : Block) (a : Ask) (r : Refusal) → answer_of b a ≡ Err r → after_ask b a ≡ b
 refused_same b a r e = refused_same_at b a r (refusal_of b a) e
 
+-- a new target leaves the three numbers
+at_target : (b : Block) (t : ℕ) → (changed b (Target t)).at ≡ b.at
+at_target b t = elim (target_of t) as (λ o. (elim o as (λ _. Block) [ None ↦ b | Some m ↦ with_target b m ]).at ≡ b.at) [ None ↦ refl | Some m ↦ refl ]
+
 -- the setpoint afterwards is as it was, or a written one pulled into its limits; and so the output
-sp_target : (b : Block) (t : ℕ) → (changed b (Target t)).sp ≡ b.sp
-sp_target b t = elim (target_of t) as (λ o. (elim o as (λ _. Block) [ None ↦ b | Some m ↦ with_target b m ]).sp ≡ b.sp) [ None ↦ refl | Some m ↦ refl ]
-
-out_target : (b : Block) (t : ℕ) → (changed b (Target t)).out ≡ b.out
-out_target b t = elim (target_of t) as (λ o. (elim o as (λ _. Block) [ None ↦ b | Some m ↦ with_target b m ]).out ≡ b.out) [ None ↦ refl | Some m ↦ refl ]
-
 module _ (b : Block) (P : Value → Type 0) where
-  sp_changed : (a : Ask) → P b.sp → ((v : Value) → P (pulled b.settings.sp_limits v)) → P (changed b a).sp
-  sp_changed (Target t) here there = rw (sp_target b t) here
+  sp_changed : (a : Ask) → P b.at.sp → ((v : Value) → P (pulled b.settings.sp_limits v)) → P (changed b a).at.sp
+  sp_changed (Target t) here there = rw (at_target b t) here
   sp_changed (Switch n) here there = here
   sp_changed (Input z s) here there = here
   sp_changed (Setpoint z) here there = there (value_near z)
   sp_changed (Output z) here there = here
 
-  pub sp_cases : (a : Ask) → P b.sp → ((v : Value) → P (pulled b.settings.sp_limits v)) → P (after_ask b a).sp
-  sp_cases a here there = after_cases b a (λ d. P d.sp) here (sp_changed a here there)
+  pub sp_cases : (a : Ask) → P b.at.sp → ((v : Value) → P (pulled b.settings.sp_limits v)) → P (after_ask b a).at.sp
+  sp_cases a here there = after_cases b a (λ d. P d.at.sp) here (sp_changed a here there)
 
-  out_changed : (a : Ask) → P b.out → ((v : Value) → P (pulled b.settings.out_limits v)) → P (changed b a).out
-  out_changed (Target t) here there = rw (out_target b t) here
+  out_changed : (a : Ask) → P b.at.out → ((v : Value) → P (pulled b.settings.out_limits v)) → P (changed b a).at.out
+  out_changed (Target t) here there = rw (at_target b t) here
   out_changed (Switch n) here there = here
   out_changed (Input z s) here there = here
   out_changed (Setpoint z) here there = here
   out_changed (Output z) here there = there (value_near z)
 
-  pub out_cases : (a : Ask) → P b.out → ((v : Value) → P (pulled b.settings.out_limits v)) → P (after_ask b a).out
-  out_cases a here there = after_cases b a (λ d. P d.out) here (out_changed a here there)
+  pub out_cases : (a : Ask) → P b.at.out → ((v : Value) → P (pulled b.settings.out_limits v)) → P (after_ask b a).at.out
+  out_cases a here there = after_cases b a (λ d. P d.at.out) here (out_changed a here there)
 
--- in IMan neither a setpoint nor an output is written
-pub record Unwritten (b d : Block) : Type 0 where
-  pub sp : d.sp ≡ b.sp
-  pub out : d.out ≡ b.out
-
-unwritten_since : (b d : Block) → d ≡ b → Unwritten b d
-unwritten_since b d e = record { sp = ap (λ (x : Block). x.sp) e; out = ap (λ (x : Block). x.out) e }
-
+-- a call that is turned down, whatever for
 module _ (b : Block) (a : Ask) where
   refused_by : (r : Refusal) → refusal_of b a ≡ Some r → after_ask b a ≡ b
   refused_by r e = ap (λ (o : Option Refusal). elim o as (λ _. Block) [ None ↦ changed b a | Some x ↦ b ]) e
@@ -109,11 +100,12 @@ module _ (b : Block) (a : Ask) where
   refused_any true t r q p e = refused_either t r q e
   refused_any false t r q p e = refused_by p e
 
-pub unwritten : (b : Block) (a : Ask) → b.actual ≡ IMan → Unwritten b (after_ask b a)
-unwritten b (Target t) h = after_cases b (Target t) (Unwritten b) (record { sp = refl; out = refl }) (record { sp = sp_target b t; out = out_target b t })
-unwritten b (Switch n) h = after_cases b (Switch n) (Unwritten b) (record { sp = refl; out = refl }) (record { sp = refl; out = refl })
-unwritten b (Input z s) h = after_cases b (Input z s) (Unwritten b) (record { sp = refl; out = refl }) (record { sp = refl; out = refl })
+-- in IMan neither a setpoint nor an output is written
+pub unwritten : (b : Block) (a : Ask) → b.actual ≡ IMan → (after_ask b a).at ≡ b.at
+unwritten b (Target t) h = after_cases b (Target t) (λ d. d.at ≡ b.at) refl (at_target b t)
+unwritten b (Switch n) h = after_cases b (Switch n) (λ d. d.at ≡ b.at) refl refl
+unwritten b (Input z s) h = after_cases b (Input z s) (λ d. d.at ≡ b.at) refl refl
 unwritten b (Setpoint z) h =
-    unwritten_since b _ (refused_either b (Setpoint z) (is_value z) NotAuto OutOfRange (simp h))
+    ap (λ (x : Block). x.at) (refused_either b (Setpoint z) (is_value z) NotAuto OutOfRange (simp h))
 unwritten b (Output z) h =
-    unwritten_since b _ (refused_any b (Output z) b.settings.takes_output (is_value z) NotMan OutOfRange NotHere (simp h))
+    ap (λ (x : Block). x.at) (refused_any b (Output z) b.settings.takes_output (is_value z) NotMan OutOfRange NotHere (simp h))

@@ -51,13 +51,13 @@ refusal_of b (Output z) =
 
 -- a block with one thing put in the place of what it had
 abbrev pub with_target : Block → Mode → Block
-with_target b m = record { settings = b.settings; target = m; actual = b.actual; cause = b.cause; switch = b.switch; input = b.input; sp = b.sp; pv = b.pv; out = b.out; hides_request = b.hides_request }
+with_target b m = record { settings = b.settings; target = m; actual = b.actual; cause = b.cause; switch = b.switch; input = b.input; at = b.at; hides_request = b.hides_request }
 
 abbrev pub with_switch : Block → Bool → Block
-with_switch b on = record { settings = b.settings; target = b.target; actual = b.actual; cause = b.cause; switch = on; input = b.input; sp = b.sp; pv = b.pv; out = b.out; hides_request = b.hides_request }
+with_switch b on = record { settings = b.settings; target = b.target; actual = b.actual; cause = b.cause; switch = on; input = b.input; at = b.at; hides_request = b.hides_request }
 
 abbrev pub with_input : Block → Option Signal → Block
-with_input b i = record { settings = b.settings; target = b.target; actual = b.actual; cause = b.cause; switch = b.switch; input = i; sp = b.sp; pv = b.pv; out = b.out; hides_request = b.hides_request }
+with_input b i = record { settings = b.settings; target = b.target; actual = b.actual; cause = b.cause; switch = b.switch; input = i; at = b.at; hides_request = b.hides_request }
 
 -- a new input in the place of the one that there was, if there was one
 abbrev pub put_input : Option Signal → Signal → Option Signal
@@ -65,10 +65,10 @@ put_input None i = None
 put_input (Some j) i = Some i
 
 abbrev pub with_sp : Block → Value → Block
-with_sp b v = record { settings = b.settings; target = b.target; actual = b.actual; cause = b.cause; switch = b.switch; input = b.input; sp = v; pv = b.pv; out = b.out; hides_request = b.hides_request }
+with_sp b v = record { settings = b.settings; target = b.target; actual = b.actual; cause = b.cause; switch = b.switch; input = b.input; at = record { sp = v; pv = b.at.pv; out = b.at.out }; hides_request = b.hides_request }
 
 abbrev pub with_out : Block → Value → Block
-with_out b v = record { settings = b.settings; target = b.target; actual = b.actual; cause = b.cause; switch = b.switch; input = b.input; sp = b.sp; pv = b.pv; out = v; hides_request = b.hides_request }
+with_out b v = record { settings = b.settings; target = b.target; actual = b.actual; cause = b.cause; switch = b.switch; input = b.input; at = record { sp = b.at.sp; pv = b.at.pv; out = v }; hides_request = b.hides_request }
 
 -- a block after a call that it accepts; what is written is pulled into the limits of what it is written to
 abbrev pub changed : Block → Ask → Block

@@ -3,10 +3,10 @@
 --                                      status from above. An end has nothing below: it counts as linked
 --     usable b                         b's input is usable: good, or uncertain where b takes that. A block without input has
 --                                      nothing that is unusable
---     moved b m sp pv out hides        b as a round leaves it: target, switch, input and settings stand
+--     moved b m p hides                b as a round leaves it: target, switch, input and settings stand
 use Rattle.std.specs.Prelude.{ℕ, Bool, true, false, cond, not, ◌&&◌, ◌||◌, Some, None, Option}
 use Rattle.signal.specs.Status.{same_code, quality_of}
-use Rattle.signal.specs.declared.kinds.Value.{Value}
+use Rattle.signal.specs.declared.kinds.OperatingPoint.{OperatingPoint}
 use Rattle.signal.specs.declared.mode.LoCause.{LoCause}
 use Rattle.signal.specs.declared.mode.LoCause.TheVariants.{Switch, Fault}
 use Rattle.signal.specs.declared.mode.Mode.{Mode}
@@ -53,5 +53,5 @@ abbrev pub cause_of : Bool → LoCause
 cause_of true = Switch
 cause_of false = Fault
 
-abbrev pub moved : Block → Mode → Value → Value → Value → Bool → Block
-moved b m sp pv out hides = record { settings = b.settings; target = b.target; actual = m; cause = cause_of b.switch; switch = b.switch; input = b.input; sp = sp; pv = pv; out = out; hides_request = hides }
+abbrev pub moved : Block → Mode → OperatingPoint → Bool → Block
+moved b m p hides = record { settings = b.settings; target = b.target; actual = m; cause = cause_of b.switch; switch = b.switch; input = b.input; at = p; hides_request = hides }

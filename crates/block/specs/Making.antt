@@ -69,4 +69,4 @@ abbrev pub not_connected : Signal
 not_connected = record { value = zero_value; status = record { 0 = 0x08 } }
 
 abbrev pub fresh_block : Settings → Option Signal → Bool → Block
-fresh_block st input hides = record { settings = st; target = OutOfService; actual = OutOfService; cause = Switch; switch = false; input = input; sp = pulled st.sp_limits zero_value; pv = zero_value; out = pulled st.out_limits zero_value; hides_request = hides }
+fresh_block st input hides = record { settings = st; target = OutOfService; actual = OutOfService; cause = Switch; switch = false; input = input; at = record { sp = pulled st.sp_limits zero_value; pv = zero_value; out = pulled st.out_limits zero_value }; hides_request = hides }

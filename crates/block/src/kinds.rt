@@ -1,7 +1,7 @@
 // What every block has, whatever its kind, and what it can be asked.
 ghost use Rattle.signal.specs.Limits.{Inside};
 
-use signal::{Limits, LoCause, Mode, Signal, Status, Value};
+use signal::{Limits, LoCause, Mode, OperatingPoint, Signal, Status, Value};
 
 // The modes that a block permits: O/S, Man and Auto always, Cas where it is said.
 #[derive(Clone, Copy)]
@@ -48,9 +48,7 @@ pub struct Block {
     pub switch: bool,
     // an end has none
     pub input: Option<Signal>,
-    pub sp: Value,
-    pub pv: Value,
-    pub out: Value,
+    pub at: OperatingPoint,
     // it shows CC in the place of C8
     pub hides_request: bool,
 }

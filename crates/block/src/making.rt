@@ -4,7 +4,7 @@ ghost use Rattle.block.specs.Making.{BoundedFrom, ProperAround, permitted_of, Pe
 
 use crate::fault::{OptionsFault, PermittedFault};
 use crate::kinds::{Block, Bounded, Options, Permitted, Settings};
-use signal::{Limits, LimitsFault, LoCause, Mode, Signal, Value};
+use signal::{Limits, LimitsFault, LoCause, Mode, OperatingPoint, Signal, Value};
 
 impl Bounded {
     pub fn new(low: i32, high: i32, value: i32) -> Result<Bounded, LimitsFault>
@@ -71,9 +71,11 @@ impl Block {
             cause: LoCause::Switch,
             switch: false,
             input,
-            sp: settings.sp_limits.pull(zero),
-            pv: zero,
-            out: settings.out_limits.pull(zero),
+            at: OperatingPoint {
+                sp: settings.sp_limits.pull(zero),
+                pv: zero,
+                out: settings.out_limits.pull(zero),
+            },
             hides_request,
         }
     }

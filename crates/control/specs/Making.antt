@@ -14,7 +14,7 @@ use Rattle.law.specs.Law.{LawModel}
 use Rattle.law.specs.declared.fault.LawFault.{LawFault}
 use Rattle.signal.specs.Limits.{ProperLimits}
 use Rattle.signal.specs.declared.kinds.Limits.{Limits}
-use Rattle.control.specs.Control.{point_of, ControlKept}
+use Rattle.control.specs.Control.{ControlKept}
 use Rattle.control.specs.declared.fault.ControlFault.{ControlFault}
 use Rattle.control.specs.declared.fault.ControlFault.TheVariants.{Law, End, BadLimits, BadPermitted, BadOptions, TooManyBlocks}
 use Rattle.control.specs.declared.kinds.Control.{Control}
@@ -68,7 +68,7 @@ pub record MadeControl {L E : Type 0} (l : LawModel L) (n : ControlSetup) (law :
   pub settings : SettingsOf n c.block.settings
   pub fresh : c.block ≡ fresh_block c.block.settings (Some not_connected) false
   pub track : c.track_value.raw ≡ n.track_value
-  pub started : c.law ≡ l.started law (point_of c.block)
+  pub started : c.law ≡ l.started law c.block.at
   pub over : c.lower ≡ d
 
 module _ {L E : Type 0} (l : LawModel L) (e : EndModel E) where

@@ -21,18 +21,18 @@ taken_in None usable pv = pv
 taken_in (Some i) usable pv = cond usable i.value pv
 
 abbrev pub next_pv : Block → Value
-next_pv b = taken_in b.input (usable b) b.pv
+next_pv b = taken_in b.input (usable b) b.at.pv
 
 -- with the option that the setpoint tracks the process value
 abbrev pub tracked_sp : Block → Value
-tracked_sp b = cond b.settings.options.track_pv (pulled b.settings.sp_limits (next_pv b)) b.sp
+tracked_sp b = cond b.settings.options.track_pv (pulled b.settings.sp_limits (next_pv b)) b.at.sp
 
 abbrev pub next_sp : Block → Mode → Value → Value
-next_sp b OutOfService above = b.sp
+next_sp b OutOfService above = b.at.sp
 next_sp b IMan above = tracked_sp b
 next_sp b Lo above = tracked_sp b
 next_sp b Man above = tracked_sp b
-next_sp b Auto above = b.sp
+next_sp b Auto above = b.at.sp
 next_sp b Cas above = pulled b.settings.sp_limits above
 
 -- what is shown below, save that nothing is taken from a Bad one
@@ -43,10 +43,10 @@ taken_back Good below out = below
 taken_back GoodCascade below out = below
 
 abbrev pub next_out : Block → Mode → Signal → Value → Value → Value
-next_out b OutOfService below track law = b.out
-next_out b IMan below track law = taken_back (quality_of below.status.0) below.value b.out
+next_out b OutOfService below track law = b.at.out
+next_out b IMan below track law = taken_back (quality_of below.status.0) below.value b.at.out
 next_out b Lo below track law = track
-next_out b Man below track law = b.out
+next_out b Man below track law = b.at.out
 next_out b Auto below track law = pulled b.settings.out_limits law
 next_out b Cas below track law = pulled b.settings.out_limits law
 

@@ -6,7 +6,7 @@ use crate::fault::ControlFault;
 use crate::kinds::{Control, ControlSetup};
 use block::{Block, Bounded, EndFault, LowerEnd, Options, Permitted, Settings};
 use law::{Law, LawFault};
-use signal::{Limits, LimitsFault, OperatingPoint, Signal, Status, Value};
+use signal::{Limits, LimitsFault, Signal, Status, Value};
 
 // The most blocks that a control block may stand over.
 const MOST_BELOW: u8 = 15;
@@ -46,11 +46,7 @@ impl<L: Law + Drop, E: LowerEnd + Drop> Control<L, E> {
             return Err(ControlFault::TooManyBlocks);
         }
         let block = Block::fresh(settings, Some(Signal::new(0, Status::NOT_CONNECTED)), false);
-        law.start(OperatingPoint {
-            sp: block.sp,
-            pv: block.pv,
-            out: block.out,
-        });
+        law.start(block.at);
         Ok(Control {
             block,
             track_value,

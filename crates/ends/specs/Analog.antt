@@ -45,10 +45,10 @@ sets_value SetValue = true
 
 -- LO by fault is LO with the switch off
 abbrev pub analog_out : Analog → Mode → Value → Value
-analog_out a OutOfService aim = a.block.out
-analog_out a IMan aim = a.block.out
-analog_out a Lo aim = cond (not a.block.switch && sets_value a.fault_action) a.fault_value a.block.out
-analog_out a Man aim = a.block.out
+analog_out a OutOfService aim = a.block.at.out
+analog_out a IMan aim = a.block.at.out
+analog_out a Lo aim = cond (not a.block.switch && sets_value a.fault_action) a.fault_value a.block.at.out
+analog_out a Man aim = a.block.at.out
 analog_out a Auto aim = aim
 analog_out a Cas aim = aim
 

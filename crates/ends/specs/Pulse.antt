@@ -23,12 +23,12 @@ stepped from travel aim =
     (cond (int_le aim.raw (from.raw -ℤ pos travel)) (value_near (from.raw -ℤ pos travel)) from)
 
 abbrev pub pulse_out : Pulse → Mode → Value → Value
-pulse_out p OutOfService aim = p.block.out
-pulse_out p IMan aim = p.block.out
-pulse_out p Lo aim = p.block.out
-pulse_out p Man aim = p.block.out
-pulse_out p Auto aim = stepped p.block.out p.travel.number aim
-pulse_out p Cas aim = stepped p.block.out p.travel.number aim
+pulse_out p OutOfService aim = p.block.at.out
+pulse_out p IMan aim = p.block.at.out
+pulse_out p Lo aim = p.block.at.out
+pulse_out p Man aim = p.block.at.out
+pulse_out p Auto aim = stepped p.block.at.out p.travel.number aim
+pulse_out p Cas aim = stepped p.block.at.out p.travel.number aim
 
 abbrev pub pulse_hides : Pulse → Bool
 pulse_hides p = not (runs p.block.actual)

@@ -59,8 +59,8 @@ out_inside p OutOfService aim k h = k.block.out_inside
 out_inside p IMan aim k h = k.block.out_inside
 out_inside p Lo aim k h = k.block.out_inside
 out_inside p Man aim k h = k.block.out_inside
-out_inside p Auto aim k h = stepped_inside p.block.settings.sp_limits p.block.out aim p.travel.number k.block.out_inside h
-out_inside p Cas aim k h = stepped_inside p.block.settings.sp_limits p.block.out aim p.travel.number k.block.out_inside h
+out_inside p Auto aim k h = stepped_inside p.block.settings.sp_limits p.block.at.out aim p.travel.number k.block.out_inside h
+out_inside p Cas aim k h = stepped_inside p.block.settings.sp_limits p.block.at.out aim p.travel.number k.block.out_inside h
 
 kept_rounded : (p : Pulse) (c : Signal) → PulseKept p → PulseKept (pulse_rounded p c)
 kept_rounded p c k = record {

@@ -31,7 +31,7 @@ none_again : (o p : Option Signal) → is_some o ≡ is_some p → p ≡ None �
 none_again None p i e = refl
 none_again (Some x) p i e = let same : true ≡ false = i ∙ ap is_some e in cc
 
-kept_since : (b d : Block) → d.settings ≡ b.settings → is_some d.input ≡ is_some b.input → Inside b.settings.sp_limits d.sp → Inside b.settings.sp_limits d.out
+kept_since : (b d : Block) → d.settings ≡ b.settings → is_some d.input ≡ is_some b.input → Inside b.settings.sp_limits d.at.sp → Inside b.settings.sp_limits d.at.out
     → KeptBlock b → KeptBlock d
 kept_since b d e i sp out k = record {
   sp_inside = rw e sp;
@@ -47,7 +47,7 @@ block_asked b a k =
     kept_since b (after_ask b a) (standing b a).settings (standing b a).has_input (sp_cases b (Inside l) a k.sp_inside (pulled_inside l)) (out_cases b (Inside l) a k.out_inside pulls) k
 
 -- a round
-pub aim_inside : (b : Block) (v : Value) (m : Mode) → Inside b.settings.sp_limits b.sp → Inside b.settings.sp_limits (aimed_sp b m v)
+pub aim_inside : (b : Block) (v : Value) (m : Mode) → Inside b.settings.sp_limits b.at.sp → Inside b.settings.sp_limits (aimed_sp b m v)
 aim_inside b v OutOfService h = h
 aim_inside b v IMan h = h
 aim_inside b v Lo h = h
@@ -79,8 +79,8 @@ module _ (b : Block) (fault : Bool) (c : Signal) (out : Value) (hides : Bool) wh
   cas_sp m e = rw e refl
 
   -- coming into Cas on a value equal to the setpoint
-  pub keeps_sp : KeptBlock b → end_mode b fault c ≡ Cas → c.value ≡ b.sp → (rounded_block b fault c out hides).sp ≡ b.sp
-  keeps_sp k e v = cas_sp (end_mode b fault c) e ∙ (ap (pulled b.settings.sp_limits) v ∙ pulled_same b.settings.sp_limits b.sp k.sp_inside)
+  pub keeps_sp : KeptBlock b → end_mode b fault c ≡ Cas → c.value ≡ b.at.sp → (rounded_block b fault c out hides).at.sp ≡ b.at.sp
+  keeps_sp k e v = cas_sp (end_mode b fault c) e ∙ (ap (pulled b.settings.sp_limits) v ∙ pulled_same b.settings.sp_limits b.at.sp k.sp_inside)
 
 -- an end as made is kept
 pub fresh_kept : (l : Limits) (p : Permitted) (out hides : Bool) → KeptBlock (fresh_block (end_settings l p out) None hides)

@@ -137,7 +137,7 @@ impl Analog {
         match (mode, self.fault_action) {
             (Mode::Auto | Mode::Cas, _) => aim,
             (Mode::Lo, FaultAction::Value) if !self.block.switch => self.fault_value,
-            _ => self.block.out,
+            _ => self.block.at.out,
         }
     }
 }

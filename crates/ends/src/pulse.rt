@@ -82,8 +82,8 @@ impl Pulse {
         ensures { result ≡ pulse_out self.now mode aim }
     {
         match mode {
-            Mode::Auto | Mode::Cas => stepped(self.block.out, self.travel, aim),
-            _ => self.block.out,
+            Mode::Auto | Mode::Cas => stepped(self.block.at.out, self.travel, aim),
+            _ => self.block.at.out,
         }
     }
 }

@@ -1,10 +1,10 @@
 // What a round does in an end of any kind.
 ghost use Rattle.std.specs.Prelude.{◌≡◌};
 ghost use Rattle.block.specs.Lines.{moved};
-ghost use Rattle.ends.specs.Round.{end_mode, end_aim, aimed_sp, left_sp};
+ghost use Rattle.ends.specs.Round.{end_mode, end_aim, aimed_sp, left_sp, left_point};
 
 use block::Block;
-use signal::{Mode, Signal, Status, Value};
+use signal::{Mode, OperatingPoint, Signal, Status, Value};
 
 // The mode that a round brings, and the setpoint that OUT is worked out from.
 #[derive(Clone, Copy)]
@@ -25,10 +25,14 @@ impl EndRound {
     }
 
     pub fn leave(self, block: &mut Block, out: Value, hides_request: bool)
-        ensures { block.new ≡ moved block.old self.mode (left_sp self.mode self.aim out) block.old.pv out hides_request }
+        ensures { block.new ≡ moved block.old self.mode (left_point block.old self.mode self.aim out) hides_request }
     {
-        let pv = block.pv;
-        block.move_to(self.mode, self.left_sp(out), pv, out, hides_request);
+        let at = OperatingPoint {
+            sp: self.left_sp(out),
+            pv: block.at.pv,
+            out,
+        };
+        block.move_to(self.mode, at, hides_request);
     }
 
     // The setpoint that the round leaves: in Man and LO it follows OUT.
@@ -48,6 +52,6 @@ fn aimed_sp(block: &Block, mode: Mode, from_above: Value) -> Value
 {
     match mode {
         Mode::Cas => block.settings.sp_limits.pull(from_above),
-        _ => block.sp,
+        _ => block.at.sp,
     }
 }

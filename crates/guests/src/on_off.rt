@@ -32,7 +32,7 @@ impl OnOff {
         match mode {
             Mode::Auto | Mode::Cas if limits.low().raw() < aim.raw() => limits.high(),
             Mode::Auto | Mode::Cas => limits.low(),
-            _ => self.block.out,
+            _ => self.block.at.out,
         }
     }
 }
