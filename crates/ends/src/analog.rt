@@ -42,6 +42,7 @@ pub struct AnalogSetup {
 pub struct Analog {
     block: Block,
     fault_time: Thousand,
+    // kept with either action: every number is kept as given
     fault_value: Value,
     fault_action: FaultAction,
     // faulty rounds in a row, up to the fault time
@@ -79,6 +80,7 @@ impl From<ActionFault> for EndFault {
 }
 
 impl AnalogSetup {
+    // A function of its own: with the three numbers read in `new`, the proof there does not close.
     fn limits(&self) -> Result<Bounded, LimitsFault>
         ensures { MatchResult result (BoundedFrom self.now.low self.now.high self.now.fault_value) (λ _. GoodEndLimits self.now → ⊥) }
     {
@@ -98,6 +100,7 @@ impl Analog {
         Ok(Analog::assembled(bounded, permitted, fault_time, fault_action))
     }
 
+    // Apart from `new`, whose proof does not close over the whole of it.
     fn assembled(
         bounded: Bounded,
         permitted: Permitted,

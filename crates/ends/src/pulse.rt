@@ -68,6 +68,7 @@ impl Pulse {
         Ok(Pulse::assembled(limits, permitted, travel))
     }
 
+    // Apart from `new`, whose proof does not close over the whole of it.
     fn assembled(limits: Limits, permitted: Permitted, travel: Thousand) -> Pulse
         ensures whole { result ≡ fresh_pulse limits permitted travel }
         ensures kept { PulseKept result }

@@ -30,7 +30,7 @@ impl OnOff {
     {
         let limits = self.block.settings.sp_limits;
         match mode {
-            Mode::Auto | Mode::Cas if limits.low().raw() < aim.raw() => limits.high(),
+            Mode::Auto | Mode::Cas if limits.low() < aim => limits.high(),
             Mode::Auto | Mode::Cas => limits.low(),
             _ => self.block.at.out,
         }
