@@ -1,6 +1,6 @@
 -- An analog end shows all that an end of one block owes. Assumes nothing.
 use Rattle.std.specs.Prelude.{◌≡◌, ℕ, ◌<◌, ◌≤◌, Bool, true, false, cond, not, ◌&&◌, ◌⊎◌, refl}
-use Rattle.std.proofs.Common.{ap, ◌∙◌, inl, inr, arith, lit<, lit≤}
+use Rattle.std.proofs.Common.{◌∙◌, inl, inr, arith, lit<, lit≤}
 use Rattle.std.proofs.lemmas.Bool.{cond_both}
 use Rattle.std.proofs.lemmas.Bool.Decides.{nat_tests}
 use Rattle.signal.specs.Limits.{Inside}
@@ -11,14 +11,12 @@ use Rattle.signal.specs.declared.mode.Mode.{Mode}
 use Rattle.signal.specs.declared.mode.Mode.TheVariants.{OutOfService, IMan, Lo, Man, Auto, Cas}
 use Rattle.signal.specs.declared.status.Signal.{Signal}
 use Rattle.block.specs.Asks.{standing}
-use Rattle.block.proofs.Next.{next_os, next_cas_asked, next_cas_target}
 use Rattle.block.proofs.Pulled.{low_inside}
 use Rattle.block.specs.Alone.{AloneFacts, alone_model}
-use Rattle.block.specs.Lines.{cause_of}
 use Rattle.block.specs.Calls.{after_ask}
 use Rattle.block.specs.Shown.{shown_status}
 use Rattle.block.specs.declared.kinds.Ask.{Ask}
-use Rattle.ends.specs.Rounds.{fresh_kept, block_asked, block_rounded, untouched, keeps_sp, aim_inside, led, invited_mode}
+use Rattle.ends.specs.Rounds.{fresh_kept, block_asked, block_rounded, round_owes, aim_inside, led, invited_mode}
 use Rattle.ends.specs.Analog.{brings_fault, analog_faulty, analog_out, analog_mode, analog_aim, analog_rounded, AnalogKept, analog_away, analog_own, sets_value, analog_with}
 use Rattle.ends.specs.Making.{fresh_analog}
 use Rattle.ends.specs.declared.analog.Analog.{Analog}
@@ -109,13 +107,7 @@ analog_facts = record {
   kept_asked = kept_asked;
   kept_rounded = kept_rounded;
   no_input = λ a k. k.block.no_input;
-  settings = λ a c k. refl;
-  round_leaves = λ a c k. untouched a.block (analog_faulty a c.status.0) c _ false;
-  out_of_service = λ a c k. next_os a.block 0xC0 (analog_faulty a c.status.0) c.status.0;
-  cas_on_target = λ a c k. next_cas_target a.block 0xC0 (analog_faulty a c.status.0) c.status.0;
-  into_cas = λ a c k. next_cas_asked a.block 0xC0 (analog_faulty a c.status.0) c.status.0;
-  lo_by_switch = λ a c k _ on. ap cause_of on;
-  keeps_sp = λ a c k _. keeps_sp a.block (analog_faulty a c.status.0) c _ false k.block;
+  round = λ a c k. round_owes a.block (analog_faulty a c.status.0) c _ false k.block;
   number_range = (lit≤ tt, lit≤ tt);
   near = near;
   there = there;

@@ -1,6 +1,6 @@
 -- A pulse end shows all that an end of one block owes. Assumes nothing.
 use Rattle.std.specs.Prelude.{◌≡◌, ℕ, ◌<◌, ◌≤◌, Bool, true, false, not, ◌⊎◌, ℤ, pos, negsuc, ◌+ℤ◌, ◌-ℤ◌, ◌≤ℤ◌, int_le, int_lt, refl}
-use Rattle.std.proofs.Common.{ap, ◌∙◌, inl, inr, arith, lit<, lit≤}
+use Rattle.std.proofs.Common.{◌∙◌, inl, inr, arith, lit<, lit≤}
 use Rattle.std.proofs.lemmas.Int.{ints}
 use Rattle.std.proofs.lemmas.Bool.{cond_both, cond-false}
 use Rattle.signal.specs.Limits.{Inside}
@@ -10,11 +10,9 @@ use Rattle.signal.specs.declared.kinds.Value.{Value}
 use Rattle.signal.specs.declared.mode.Mode.{Mode}
 use Rattle.signal.specs.declared.mode.Mode.TheVariants.{OutOfService, IMan, Lo, Man, Auto, Cas}
 use Rattle.signal.specs.declared.status.Signal.{Signal}
-use Rattle.block.proofs.Next.{next_os, next_cas_asked, next_cas_target}
 use Rattle.block.specs.Alone.{AloneFacts}
-use Rattle.block.specs.Lines.{cause_of}
 use Rattle.block.specs.Modes.{runs}
-use Rattle.ends.specs.Rounds.{fresh_kept, block_asked, block_rounded, untouched, keeps_sp, aim_inside, led, invited_mode}
+use Rattle.ends.specs.Rounds.{fresh_kept, block_asked, block_rounded, round_owes, aim_inside, led, invited_mode}
 use Rattle.ends.specs.Making.{fresh_pulse}
 use Rattle.ends.specs.Pulse.{stepped, pulse_out, pulse_hides, pulse_rounded, PulseKept, pulse_away, pulse_own}
 use Rattle.ends.specs.Round.{end_mode, end_aim}
@@ -117,13 +115,7 @@ pulse_facts = record {
   kept_asked = λ p x k. record { block = block_asked p.block x k.block };
   kept_rounded = kept_rounded;
   no_input = λ p k. k.block.no_input;
-  settings = λ p c k. refl;
-  round_leaves = λ p c k. untouched p.block false c _ (pulse_hides p);
-  out_of_service = λ p c k. next_os p.block 0xC0 false c.status.0;
-  cas_on_target = λ p c k. next_cas_target p.block 0xC0 false c.status.0;
-  into_cas = λ p c k. next_cas_asked p.block 0xC0 false c.status.0;
-  lo_by_switch = λ p c k _ on. ap cause_of on;
-  keeps_sp = λ p c k _. keeps_sp p.block false c _ (pulse_hides p) k.block;
+  round = λ p c k. round_owes p.block false c _ (pulse_hides p) k.block;
   number_range = (lit≤ tt, lit≤ tt);
   near = near;
   there = there;
