@@ -134,11 +134,11 @@ impl Analog {
         }
     }
 
-    fn next_out(&self, mode: Mode, aim: Value) -> Value
-        ensures { result ≡ analog_out self.now mode aim }
+    fn next_out(&self, round: EndRound) -> Value
+        ensures { result ≡ analog_out self.now round.mode round.aim }
     {
-        match (mode, self.fault_action) {
-            (Mode::Auto | Mode::Cas, _) => aim,
+        match (round.mode, self.fault_action) {
+            (Mode::Auto | Mode::Cas, _) => round.aim,
             (Mode::Lo, FaultAction::Value) if !self.block.switch => self.fault_value,
             _ => self.block.at.out,
         }
@@ -167,7 +167,7 @@ impl OneBlock for Analog {
         let count = self.counted(cas_in.status);
         let fault = count == self.fault_time.get();
         let round = EndRound::new(&self.block, fault, cas_in);
-        let out = self.next_out(round.mode, round.aim);
+        let out = self.next_out(round);
         self.count = count;
         round.leave(&mut self.block, out, false);
     }

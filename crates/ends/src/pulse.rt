@@ -79,11 +79,11 @@ impl Pulse {
         }
     }
 
-    fn next_out(&self, mode: Mode, aim: Value) -> Value
-        ensures { result ≡ pulse_out self.now mode aim }
+    fn next_out(&self, round: EndRound) -> Value
+        ensures { result ≡ pulse_out self.now round.mode round.aim }
     {
-        match mode {
-            Mode::Auto | Mode::Cas => stepped(self.block.at.out, self.travel, aim),
+        match round.mode {
+            Mode::Auto | Mode::Cas => stepped(self.block.at.out, self.travel, round.aim),
             _ => self.block.at.out,
         }
     }
@@ -110,7 +110,7 @@ impl OneBlock for Pulse {
     fn run(&mut self, cas_in: Signal) {
         let hides = !runs(self.block.actual);
         let round = EndRound::new(&self.block, false, cas_in);
-        let out = self.next_out(round.mode, round.aim);
+        let out = self.next_out(round);
         round.leave(&mut self.block, out, hides);
     }
 }

@@ -25,12 +25,12 @@ impl OnOff {
     }
 
     // Open where the setpoint is above the low limit, else shut.
-    fn next_out(&self, mode: Mode, aim: Value) -> Value
-        ensures { result ≡ on_off_out self.now.block mode aim }
+    fn next_out(&self, round: EndRound) -> Value
+        ensures { result ≡ on_off_out self.now.block round.mode round.aim }
     {
         let limits = self.block.settings.sp_limits;
-        match mode {
-            Mode::Auto | Mode::Cas if limits.low() < aim => limits.high(),
+        match round.mode {
+            Mode::Auto | Mode::Cas if limits.low() < round.aim => limits.high(),
             Mode::Auto | Mode::Cas => limits.low(),
             _ => self.block.at.out,
         }
@@ -56,7 +56,7 @@ impl OneBlock for OnOff {
 
     fn run(&mut self, cas_in: Signal) {
         let round = EndRound::new(&self.block, false, cas_in);
-        let out = self.next_out(round.mode, round.aim);
+        let out = self.next_out(round);
         round.leave(&mut self.block, out, false);
     }
 }
