@@ -9,15 +9,7 @@ returns-clause-from c =
     let p = c.in_ok-permitted.ensures.1 in
     let a = c.in_ok-fault_action.ensures in
     let t = c.in_ok-fault_time.ensures in
-    let whole = c.assembled.ensures.whole in (
+    rw c.assembled.ensures.whole (
       (b.good, ap is_some p, ap is_some a, omega (arith, ints)),
-      record {
-        fresh = rw whole refl;
-        low_end = rw whole b.low;
-        high_end = rw whole b.high;
-        permits = rw whole p;
-        time = rw whole (omega (arith, ints));
-        value = rw whole b.value;
-        action = rw whole a;
-      },
+      record { fresh = refl; low_end = b.low; high_end = b.high; permits = p; time = omega (arith, ints); value = b.value; action = a },
     )

@@ -8,13 +8,7 @@ returns-clause-from c =
     let l = c.in_ok-limits.ensures in
     let p = c.in_ok-permitted.ensures.1 in
     let t = c.in_ok-travel.ensures in
-    let whole = c.assembled.ensures.whole in (
+    rw c.assembled.ensures.whole (
       (omega (arith, ints), ap is_some p, omega (arith, ints)),
-      record {
-        fresh = rw whole refl;
-        low_end = rw whole (omega (arith, ints));
-        high_end = rw whole (omega (arith, ints));
-        permits = rw whole p;
-        travels = rw whole (omega (arith, ints));
-      },
+      record { fresh = refl; low_end = omega (arith, ints); high_end = omega (arith, ints); permits = p; travels = omega (arith, ints) },
     )
