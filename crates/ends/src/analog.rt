@@ -2,8 +2,8 @@
 ghost use Rattle.std.specs.Prelude.{◌≡◌, Some, None, IfOk, MatchResult};
 ghost use Rattle.block.specs.Making.{BoundedFrom};
 ghost use Rattle.block.specs.declared.fault.EndFault.TheVariants.{BadAction};
-ghost use Rattle.ends.specs.Analog.{brings_fault, analog_count, analog_out, AnalogKept, analog_own};
-ghost use Rattle.ends.specs.Making.{action_of, GoodEndLimits, AnalogGood, AnalogFault, fresh_analog, AnalogFrom};
+ghost use Rattle.ends.specs.Analog.{brings_fault, analog_count, analog_out, analog_own};
+ghost use Rattle.ends.specs.Making.{action_of, GoodEndLimits, AnalogGood, AnalogFault, AnalogFrom};
 ghost use Rattle.ends.specs.AnalogFacts.{analog_facts};
 
 use crate::making::end_settings;
@@ -97,26 +97,13 @@ impl Analog {
         let permitted = Permitted::try_from(setup.permitted)?;
         let fault_action = FaultAction::try_from(setup.fault_action)?;
         let fault_time = Thousand::try_from(setup.fault_time)?;
-        Ok(Analog::assembled(bounded, permitted, fault_time, fault_action))
-    }
-
-    // Apart from `new`, whose proof does not close over the whole of it.
-    fn assembled(
-        bounded: Bounded,
-        permitted: Permitted,
-        fault_time: Thousand,
-        fault_action: FaultAction,
-    ) -> Analog
-        ensures whole { result ≡ fresh_analog bounded.limits permitted fault_time bounded.value fault_action }
-        ensures kept { AnalogKept result }
-    {
-        Analog {
+        Ok(Analog {
             block: Block::fresh(end_settings(bounded.limits, permitted, true), None, false),
             fault_time,
             fault_value: bounded.value,
             fault_action,
             count: 0,
-        }
+        })
     }
 
     // It counts with target Cas alone, in whatever mode.

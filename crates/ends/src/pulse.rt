@@ -2,8 +2,8 @@
 ghost use Rattle.std.specs.Prelude.{◌≡◌, ◌≤◌, ◌+ℤ◌, IfOk, MatchResult};
 ghost use Rattle.std.specs.Int.Signed.{mag};
 ghost use Rattle.block.specs.Modes.{runs};
-ghost use Rattle.ends.specs.Making.{PulseGood, PulseFault, fresh_pulse, PulseFrom};
-ghost use Rattle.ends.specs.Pulse.{stepped, pulse_out, PulseKept, pulse_own};
+ghost use Rattle.ends.specs.Making.{PulseGood, PulseFault, PulseFrom};
+ghost use Rattle.ends.specs.Pulse.{stepped, pulse_out, pulse_own};
 ghost use Rattle.ends.specs.PulseFacts.{pulse_facts};
 
 use crate::making::end_settings;
@@ -65,18 +65,10 @@ impl Pulse {
         let limits = Limits::new(setup.low, setup.high)?;
         let permitted = Permitted::try_from(setup.permitted)?;
         let travel = Thousand::try_from(setup.travel)?;
-        Ok(Pulse::assembled(limits, permitted, travel))
-    }
-
-    // Apart from `new`, whose proof does not close over the whole of it.
-    fn assembled(limits: Limits, permitted: Permitted, travel: Thousand) -> Pulse
-        ensures whole { result ≡ fresh_pulse limits permitted travel }
-        ensures kept { PulseKept result }
-    {
-        Pulse {
+        Ok(Pulse {
             block: Block::fresh(end_settings(limits, permitted, false), None, true),
             travel,
-        }
+        })
     }
 
     fn next_out(&self, round: EndRound) -> Value
