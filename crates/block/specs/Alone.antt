@@ -1,8 +1,9 @@
 -- An end of one block: its model from what is its own, and the facts that it still owes. Assumes nothing.
 --     alone_model o     the model of an end of one block
 --     AloneFacts o      what such an end has to show; all else that an end owes follows
+--     RoundOwes b c d   what its round owes of its block b, on the signal c, where d is the block afterwards
 --     pick x f k        the first at number 0, and what stands below it at every other
-use Rattle.std.specs.Prelude.{◌≡◌, ℕ, zero, suc, ◌<◌, ◌≤◌, Bool, true, false, cond, ◌≢◌, ◌⊎◌, Ok, Err, Result}
+use Rattle.std.specs.Prelude.{◌≡◌, ℕ, zero, suc, ◌<◌, ◌≤◌, Bool, true, false, cond, ◌≢◌, ◌⊎◌, None, Ok, Err, Result}
 use Rattle.signal.specs.Status.{same_code}
 use Rattle.signal.specs.declared.mode.LoCause.TheVariants.{Switch}
 use Rattle.signal.specs.declared.mode.Mode.{Mode}
@@ -40,6 +41,16 @@ pub record Own (S : Type 0) : Type 1 where
   pub rounded : S → Signal → S
   pub kept : S → Type 0
 
+-- what a round on the signal c owes of the block b, which it leaves as d
+pub record RoundOwes (b : Block) (c : Signal) (d : Block) : Type 0 where
+  pub settings : d.settings ≡ b.settings
+  pub leaves : Untouched b d
+  pub out_of_service : b.target ≡ OutOfService → d.actual ≡ OutOfService
+  pub cas_on_target : d.actual ≡ Cas → b.target ≡ Cas
+  pub into_cas : b.actual ≢ Cas → d.actual ≡ Cas → (same_code (shown_status b) 0xC8 ≡ true) × (same_code c.status.0 0xC4 ≡ true)
+  pub lo_by_switch : d.actual ≡ Lo → b.switch ≡ true → d.cause ≡ Switch
+  pub keeps_sp : b.actual ≢ Cas → d.actual ≡ Cas → c.value ≡ b.at.sp → d.at.sp ≡ b.at.sp
+
 module _ {S : Type 0} (o : Own S) where
   abbrev pub alone_model : EndModel S
   alone_model = record {
@@ -62,20 +73,8 @@ module _ {S : Type 0} (o : Own S) where
     pub over : (s : S) (b d : Block) → o.with_block (o.with_block s b) d ≡ o.with_block s d
     pub kept_asked : (s : S) (a : Ask) → o.kept s → o.kept (o.with_block s (after_ask (o.the_block s) a))
     pub kept_rounded : (s : S) (c : Signal) → o.kept s → o.kept (o.rounded s c)
-    pub no_input : (s : S) → o.kept s → (o.the_block s).settings.takes_input ≡ false
-    pub settings : (s : S) (c : Signal) → o.kept s → (o.the_block (o.rounded s c)).settings ≡ (o.the_block s).settings
-    pub round_leaves : (s : S) (c : Signal) → o.kept s → Untouched (o.the_block s) (o.the_block (o.rounded s c))
-    pub out_of_service : (s : S) (c : Signal) → o.kept s
-        → (o.the_block s).target ≡ OutOfService → (o.the_block (o.rounded s c)).actual ≡ OutOfService
-    pub cas_on_target : (s : S) (c : Signal) → o.kept s → (o.the_block (o.rounded s c)).actual ≡ Cas → (o.the_block s).target ≡ Cas
-    pub into_cas : (s : S) (c : Signal) → o.kept s
-        → (o.the_block s).actual ≢ Cas → (o.the_block (o.rounded s c)).actual ≡ Cas
-        → (same_code (shown_status (o.the_block s)) 0xC8 ≡ true) × (same_code c.status.0 0xC4 ≡ true)
-    pub lo_by_switch : (s : S) (c : Signal) → o.kept s
-        → (o.the_block (o.rounded s c)).actual ≡ Lo → (o.the_block s).switch ≡ true → (o.the_block (o.rounded s c)).cause ≡ Switch
-    pub keeps_sp : (s : S) (c : Signal) → o.kept s
-        → (o.the_block s).actual ≢ Cas → (o.the_block (o.rounded s c)).actual ≡ Cas
-        → c.value ≡ (o.the_block s).sp → (o.the_block (o.rounded s c)).sp ≡ (o.the_block s).sp
+    pub no_input : (s : S) → o.kept s → (o.the_block s).input ≡ None
+    pub round : (s : S) (c : Signal) → o.kept s → RoundOwes (o.the_block s) c (o.the_block (o.rounded s c))
     pub number_range : (1 ≤ o.number) × (o.number ≤ 1000)
     pub near : (m : Mode) (hides : Bool) → o.away m hides ≤ o.number
     pub there : (m : Mode) (hides : Bool) → o.away m hides ≡ 0 → m ≡ Cas

@@ -3,16 +3,17 @@
 --                                      status from above. An end has nothing below: it counts as linked
 --     usable b                         b's input is usable: good, or uncertain where b takes that. A block without input has
 --                                      nothing that is unusable
---     moved b m sp pv out hides        b as a round leaves it: target, switch, input and settings stand
-use Rattle.std.specs.Prelude.{ℕ, Bool, true, false, cond, not, ◌&&◌, ◌||◌}
+--     moved b m p hides                b as a round leaves it: target, switch, input and settings stand
+use Rattle.std.specs.Prelude.{ℕ, Bool, true, false, cond, not, ◌&&◌, ◌||◌, Some, None, Option}
 use Rattle.signal.specs.Status.{same_code, quality_of}
-use Rattle.signal.specs.declared.kinds.Value.{Value}
+use Rattle.signal.specs.declared.kinds.OperatingPoint.{OperatingPoint}
 use Rattle.signal.specs.declared.mode.LoCause.{LoCause}
 use Rattle.signal.specs.declared.mode.LoCause.TheVariants.{Switch, Fault}
 use Rattle.signal.specs.declared.mode.Mode.{Mode}
 use Rattle.signal.specs.declared.mode.Mode.TheVariants.{OutOfService, IMan, Lo, Man, Auto, Cas}
 use Rattle.signal.specs.declared.status.Quality.{Quality}
 use Rattle.signal.specs.declared.status.Quality.TheVariants.{Bad, Uncertain, Good, GoodCascade}
+use Rattle.signal.specs.declared.status.Signal.{Signal}
 use Rattle.block.specs.Modes.{is_os, is_man, is_auto, is_cas}
 use Rattle.block.specs.Shown.{shown_status}
 use Rattle.block.specs.declared.kinds.Block.{Block}
@@ -23,9 +24,12 @@ good_enough Uncertain uncertain = uncertain
 good_enough Good uncertain = true
 good_enough GoodCascade uncertain = true
 
+abbrev pub usable_input : Option Signal → Bool → Bool
+usable_input None uncertain = true
+usable_input (Some i) uncertain = good_enough (quality_of i.status.0) uncertain
+
 abbrev pub usable : Block → Bool
-usable b =
-    cond b.settings.takes_input (good_enough (quality_of b.input.status.0) b.settings.options.uncertain_usable) true
+usable b = usable_input b.input b.settings.options.uncertain_usable
 
 -- what keeps a block in Cas: linked, acknowledged, or told to go to its fault state
 abbrev pub keeps_cas : ℕ → Bool
@@ -49,5 +53,5 @@ abbrev pub cause_of : Bool → LoCause
 cause_of true = Switch
 cause_of false = Fault
 
-abbrev pub moved : Block → Mode → Value → Value → Value → Bool → Block
-moved b m sp pv out hides = record { settings = b.settings; target = b.target; actual = m; cause = cause_of b.switch; switch = b.switch; input = b.input; sp = sp; pv = pv; out = out; hides_request = hides }
+abbrev pub moved : Block → Mode → OperatingPoint → Bool → Block
+moved b m p hides = record { settings = b.settings; target = b.target; actual = m; cause = cause_of b.switch; switch = b.switch; input = b.input; at = p; hides_request = hides }

@@ -5,7 +5,7 @@
 --     Ready e s      all targets Cas, every switch off, every input usable
 --     AllCas e s     all blocks are in Cas
 --     invited e s    the status that takes the end into Cas: C4 if it shows C8, else C0
-use Rattle.std.specs.Prelude.{◌≡◌, ℕ, ◌*◌, ◌<◌, ◌≤◌, true, false, cond, ◌≢◌, ◌⊎◌, Ok, Err, Result}
+use Rattle.std.specs.Prelude.{◌≡◌, ℕ, ◌*◌, ◌<◌, ◌≤◌, true, false, cond, ◌≢◌, ◌⊎◌, is_some, Some, Ok, Err, Result}
 use Rattle.signal.specs.Limits.{pulled}
 use Rattle.signal.specs.Status.{same_code}
 use Rattle.signal.specs.declared.mode.LoCause.TheVariants.{Switch}
@@ -43,6 +43,11 @@ pub record Untouched (b d : Block) : Type 0 where
   pub switch : d.switch ≡ b.switch
   pub input : d.input ≡ b.input
 
+-- its settings, and whether it has an input
+pub record SameMake (b d : Block) : Type 0 where
+  pub settings : d.settings ≡ b.settings
+  pub has_input : is_some d.input ≡ is_some b.input
+
 module _ {S : Type 0} (e : EndModel S) where
   pub record Ready (s : S) : Type 0 where
     pub targets : (k : ℕ) → k < e.size s → (e.block s k).target ≡ Cas
@@ -59,7 +64,7 @@ module _ {S : Type 0} (e : EndModel S) where
   pub record SameBuild (s t : S) : Type 0 where
     pub size : e.size t ≡ e.size s
     pub settling : e.settling t ≡ e.settling s
-    pub settings : (k : ℕ) → k < e.size s → (e.block t k).settings ≡ (e.block s k).settings
+    pub blocks : (k : ℕ) → k < e.size s → SameMake (e.block s k) (e.block t k)
 
   pub record Meaning : Type 0 where
     -- whatever came since its making; and something is kept, so that what follows says something
@@ -99,18 +104,18 @@ module _ {S : Type 0} (e : EndModel S) where
     -- a block that comes into Cas keeps its setpoint: the first on a value equal to it, an inner one always
     pub first_keeps_sp : (s : S) (c : Signal) → e.kept s
         → (e.block s 0).actual ≢ Cas → (e.block (e.rounded s c) 0).actual ≡ Cas
-        → c.value ≡ (e.block s 0).sp → (e.block (e.rounded s c) 0).sp ≡ (e.block s 0).sp
+        → c.value ≡ (e.block s 0).at.sp → (e.block (e.rounded s c) 0).at.sp ≡ (e.block s 0).at.sp
     pub inner_keeps_sp : (s : S) (c : Signal) (k : ℕ) → e.kept s → 0 < k → k < e.size s
         → (e.block s k).actual ≢ Cas → (e.block (e.rounded s c) k).actual ≡ Cas
-        → (e.block (e.rounded s c) k).sp ≡ (e.block s k).sp
+        → (e.block (e.rounded s c) k).at.sp ≡ (e.block s k).at.sp
     -- a control block: a usable input becomes the process value, and from IMan to Auto with nothing to correct OUT is kept
-    pub takes_pv : (s : S) (c : Signal) (k : ℕ) → e.kept s → k < e.size s → (e.block s k).settings.takes_input ≡ true
-        → (e.block (e.rounded s c) k).pv ≡ cond (usable (e.block s k)) (e.block s k).input.value (e.block s k).pv
-    pub keeps_out : (s : S) (c : Signal) (k : ℕ) → e.kept s → k < e.size s → (e.block s k).settings.takes_input ≡ true
+    pub takes_pv : (s : S) (c : Signal) (k : ℕ) (i : Signal) → e.kept s → k < e.size s → (e.block s k).input ≡ Some i
+        → (e.block (e.rounded s c) k).at.pv ≡ cond (usable (e.block s k)) i.value (e.block s k).at.pv
+    pub keeps_out : (s : S) (c : Signal) (k : ℕ) (i : Signal) → e.kept s → k < e.size s → (e.block s k).input ≡ Some i
         → (e.block s k).actual ≡ IMan → (e.block (e.rounded s c) k).actual ≡ Auto
-        → (e.block s k).sp ≡ (e.block s k).pv
-        → (e.block (e.rounded s c) k).sp ≡ (e.block s k).sp → (e.block (e.rounded s c) k).pv ≡ (e.block s k).pv
-        → (e.block (e.rounded s c) k).out ≡ pulled (e.block s k).settings.out_limits (e.block s k).out
+        → (e.block s k).at.sp ≡ (e.block s k).at.pv
+        → (e.block (e.rounded s c) k).at.sp ≡ (e.block s k).at.sp → (e.block (e.rounded s c) k).at.pv ≡ (e.block s k).at.pv
+        → (e.block (e.rounded s c) k).at.out ≡ pulled (e.block s k).settings.out_limits (e.block s k).at.out
     -- the distance: at most N, 0 exactly when all are in Cas, and nearer in every round that invites
     pub near : (s : S) → e.kept s → e.distance s ≤ e.settling s
     pub there : (s : S) → e.kept s → e.distance s ≡ 0 → AllCas s

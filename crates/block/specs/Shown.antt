@@ -16,7 +16,7 @@ abbrev pub shown_status : Block → ℕ
 shown_status b = cond (b.hides_request && same_code (by_mode b) 0xC8) 0xCC (by_mode b)
 
 abbrev pub shown_signal : Block → Signal
-shown_signal b = record { value = b.sp; status = record { 0 = shown_status b } }
+shown_signal b = record { value = b.at.sp; status = record { 0 = shown_status b } }
 
 abbrev pub reading_of : Block → Reading
-reading_of b = record { target = b.target; actual = b.actual; sp = b.sp; out = b.out; shown = record { 0 = shown_status b } }
+reading_of b = record { target = b.target; actual = b.actual; sp = b.at.sp; out = b.at.out; shown = record { 0 = shown_status b } }

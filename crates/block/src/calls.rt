@@ -75,11 +75,11 @@ impl Block {
         ensures answer { result ≡ answer_of self.old (Ask.Input raw status) }
         ensures after { self.new ≡ after_ask self.old (Ask.Input raw status) }
     {
-        if !self.settings.takes_input {
+        if self.input.is_none() {
             return Err(Refusal::NotHere);
         }
         let value = Value::try_from(raw)?;
-        self.input = Signal { value, status };
+        self.input = Some(Signal { value, status });
         Ok(())
     }
 
@@ -91,7 +91,7 @@ impl Block {
         if self.actual != Mode::Auto {
             return Err(Refusal::NotAuto);
         }
-        self.sp = self.settings.sp_limits.pull(value);
+        self.at.sp = self.settings.sp_limits.pull(value);
         Ok(())
     }
 
@@ -106,7 +106,7 @@ impl Block {
         if self.actual != Mode::Man {
             return Err(Refusal::NotMan);
         }
-        self.out = self.settings.out_limits.pull(value);
+        self.at.out = self.settings.out_limits.pull(value);
         Ok(())
     }
 
@@ -128,7 +128,7 @@ impl Block {
         ensures { result ≡ shown_signal self.now }
     {
         Signal {
-            value: self.sp,
+            value: self.at.sp,
             status: self.shown_status(),
         }
     }
@@ -150,8 +150,8 @@ impl Block {
         Reading {
             target: self.target,
             actual: self.actual,
-            sp: self.sp,
-            out: self.out,
+            sp: self.at.sp,
+            out: self.at.out,
             shown: self.shown_status(),
         }
     }

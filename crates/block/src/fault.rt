@@ -1,7 +1,7 @@
-// Why an end was not made.
+// Why an end was not made, or a part of what is made.
 ghost use Rattle.std.specs.Prelude.{◌≡◌};
 ghost use Rattle.block.specs.Making.{end_fault_number};
-ghost use Rattle.block.specs.declared.fault.EndFault.TheVariants.{BadLimits};
+ghost use Rattle.block.specs.declared.fault.EndFault.TheVariants.{BadLimits, BadPermitted};
 
 use signal::{LimitsFault, Numbered};
 
@@ -11,6 +11,18 @@ pub enum EndFault {
     BadPermitted = 13,
     BadAction = 14,
     BadTime = 15,
+}
+
+// Why a byte permits no modes. What is made of it has the number.
+#[derive(Clone, Copy, Debug)]
+pub enum PermittedFault {
+    BadPermitted,
+}
+
+// Why a byte says no options. What is made of it has the number.
+#[derive(Clone, Copy, Debug)]
+pub enum OptionsFault {
+    BadOptions,
 }
 
 impl Numbered for EndFault {
@@ -27,6 +39,16 @@ impl From<LimitsFault> for EndFault {
     fn from(f: LimitsFault) -> EndFault {
         match f {
             LimitsFault::BadLimits => EndFault::BadLimits,
+        }
+    }
+}
+
+impl From<PermittedFault> for EndFault {
+    ghost from_gives = { λ f r. r ≡ BadPermitted };
+
+    fn from(f: PermittedFault) -> EndFault {
+        match f {
+            PermittedFault::BadPermitted => EndFault::BadPermitted,
         }
     }
 }

@@ -1,5 +1,7 @@
 // What every block has, whatever its kind, and what it can be asked.
-use signal::{Limits, LoCause, Mode, Signal, Status, Value};
+ghost use Rattle.signal.specs.Limits.{Inside};
+
+use signal::{Limits, LoCause, Mode, OperatingPoint, Signal, Status, Value};
 
 // The modes that a block permits: O/S, Man and Auto always, Cas where it is said.
 #[derive(Clone, Copy)]
@@ -18,6 +20,14 @@ pub struct Options {
     pub uncertain_usable: bool,
 }
 
+// Limits, and a value inside them: a track value, or a fault value.
+#[derive(Clone, Copy)]
+pub struct Bounded {
+    pub limits: Limits,
+    pub value: Value,
+    ghost inside: { Inside limits value },
+}
+
 // What is fixed once a block is made.
 #[derive(Clone, Copy)]
 pub struct Settings {
@@ -25,7 +35,6 @@ pub struct Settings {
     pub out_limits: Limits,
     pub permitted: Permitted,
     pub options: Options,
-    pub takes_input: bool,
     pub takes_output: bool,
 }
 
@@ -37,10 +46,9 @@ pub struct Block {
     // what LO came by, fixed by the round and not by the switch as it is now
     pub cause: LoCause,
     pub switch: bool,
-    pub input: Signal,
-    pub sp: Value,
-    pub pv: Value,
-    pub out: Value,
+    // an end has none
+    pub input: Option<Signal>,
+    pub at: OperatingPoint,
     // it shows CC in the place of C8
     pub hides_request: bool,
 }

@@ -9,7 +9,7 @@ pub mod kinds;
 pub mod lines;
 pub mod making;
 
+pub use alone::OneBlock;
 pub use end::LowerEnd;
-pub use fault::EndFault;
-pub use kinds::{Ask, Block, Options, Permitted, Reading, Refusal, Settings};
-pub use making::limits_around;
+pub use fault::{EndFault, OptionsFault, PermittedFault};
+pub use kinds::{Ask, Block, Bounded, Options, Permitted, Reading, Refusal, Settings};

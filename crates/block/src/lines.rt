@@ -3,16 +3,16 @@ ghost use Rattle.std.specs.Prelude.{◌≡◌};
 ghost use Rattle.block.specs.Lines.{usable, keeps_cas, next_mode, moved};
 
 use crate::kinds::Block;
-use signal::{LoCause, Mode, Quality, Status, Value};
+use signal::{LoCause, Mode, OperatingPoint, Quality, Status};
 
 impl Block {
     pub fn usable(&self) -> bool
         ensures { result ≡ usable self.now }
     {
-        if !self.settings.takes_input {
+        let Some(input) = self.input else {
             return true;
-        }
-        match self.input.status.quality() {
+        };
+        match input.status.quality() {
             Quality::Bad => false,
             Quality::Uncertain => self.settings.options.uncertain_usable,
             Quality::Good | Quality::GoodCascade => true,
@@ -38,8 +38,8 @@ impl Block {
     }
 
     // What a round leaves: target, switch and input stand.
-    pub fn move_to(&mut self, mode: Mode, sp: Value, pv: Value, out: Value, hides_request: bool)
-        ensures { self.new ≡ moved self.old mode sp pv out hides_request }
+    pub fn move_to(&mut self, mode: Mode, at: OperatingPoint, hides_request: bool)
+        ensures { self.new ≡ moved self.old mode at hides_request }
     {
         self.actual = mode;
         self.cause = if self.switch {
@@ -47,9 +47,7 @@ impl Block {
         } else {
             LoCause::Fault
         };
-        self.sp = sp;
-        self.pv = pv;
-        self.out = out;
+        self.at = at;
         self.hides_request = hides_request;
     }
 }

@@ -1,32 +1,34 @@
 // The parts of making that all kinds of block share.
-ghost use Rattle.std.specs.Prelude.{◌≡◌, MatchResult};
-ghost use Rattle.block.specs.Making.{LimitsAround, ProperAround, permitted_of, PermittedFrom, options_of, OptionsFrom, fresh_block};
+ghost use Rattle.std.specs.Prelude.{◌≡◌, Some, None, MatchResult};
+ghost use Rattle.block.specs.Making.{BoundedFrom, ProperAround, permitted_of, PermittedFrom, options_of, OptionsFrom, fresh_block};
 
-use crate::kinds::{Block, Options, Permitted, Settings};
-use signal::{Limits, LimitsFault, LoCause, Mode, Signal, Status, Value};
+use crate::fault::{OptionsFault, PermittedFault};
+use crate::kinds::{Block, Bounded, Options, Permitted, Settings};
+use signal::{Limits, LimitsFault, LoCause, Mode, OperatingPoint, Signal, Value};
 
-// Limits, and a value of that number inside them: a track value, or a fault value.
-pub fn limits_around(low: i32, high: i32, inside: i32) -> Result<(Limits, Value), LimitsFault>
-    ensures { MatchResult result (LimitsAround low high inside) (λ _. ProperAround low high inside → ⊥) }
-{
-    let limits = Limits::new(low, high)?;
-    let value = Value::try_from(inside)?;
-    if limits.holds(value) {
-        Ok((limits, value))
-    } else {
-        Err(LimitsFault::BadLimits)
+impl Bounded {
+    pub fn new(low: i32, high: i32, value: i32) -> Result<Bounded, LimitsFault>
+        ensures { MatchResult result (BoundedFrom low high value) (λ _. ProperAround low high value → ⊥) }
+    {
+        let limits = Limits::new(low, high)?;
+        let value = Value::try_from(value)?;
+        if !limits.holds(value) {
+            return Err(LimitsFault::BadLimits);
+        }
+        Ok(Bounded { limits, value })
     }
 }
 
-impl Permitted {
-    pub fn from_byte(byte: u8) -> Option<Permitted>
-        ensures value { result ≡ permitted_of byte }
-        ensures from { PermittedFrom byte result }
-    {
+impl TryFrom<u8> for Permitted {
+    type Error = PermittedFault;
+
+    ghost try_from_gives = { λ b r. PermittedFrom b r × MatchResult r (λ p. permitted_of b ≡ Some p) (λ _. permitted_of b ≡ None) };
+
+    fn try_from(byte: u8) -> Result<Permitted, PermittedFault> {
         match byte {
-            0x98 => Some(Permitted { cas: false }),
-            0x9C => Some(Permitted { cas: true }),
-            _ => None,
+            0x98 => Ok(Permitted { cas: false }),
+            0x9C => Ok(Permitted { cas: true }),
+            _ => Err(PermittedFault::BadPermitted),
         }
     }
 }
@@ -37,15 +39,18 @@ impl Options {
         track_pv: false,
         uncertain_usable: false,
     };
+}
 
-    pub fn from_byte(byte: u8) -> Option<Options>
-        ensures value { result ≡ options_of byte }
-        ensures from { OptionsFrom byte result }
-    {
+impl TryFrom<u8> for Options {
+    type Error = OptionsFault;
+
+    ghost try_from_gives = { λ b r. OptionsFrom b r × MatchResult r (λ o. options_of b ≡ Some o) (λ _. options_of b ≡ None) };
+
+    fn try_from(byte: u8) -> Result<Options, OptionsFault> {
         if byte >= 16 || byte / 2 % 2 != 0 {
-            return None;
+            return Err(OptionsFault::BadOptions);
         }
-        Some(Options {
+        Ok(Options {
             fault_on_bad_input: byte % 2 == 1,
             track_pv: byte / 4 % 2 == 1,
             uncertain_usable: byte / 8 % 2 == 1,
@@ -54,8 +59,9 @@ impl Options {
 }
 
 impl Block {
-    pub fn fresh(settings: Settings, hides_request: bool) -> Block
-        ensures { result ≡ fresh_block settings hides_request }
+    // A control block comes with an input, and an end with none.
+    pub fn fresh(settings: Settings, input: Option<Signal>, hides_request: bool) -> Block
+        ensures { result ≡ fresh_block settings input hides_request }
     {
         let zero = Value::ZERO;
         Block {
@@ -64,13 +70,12 @@ impl Block {
             actual: Mode::OutOfService,
             cause: LoCause::Switch,
             switch: false,
-            input: Signal {
-                value: zero,
-                status: Status::NOT_CONNECTED,
+            input,
+            at: OperatingPoint {
+                sp: settings.sp_limits.pull(zero),
+                pv: zero,
+                out: settings.out_limits.pull(zero),
             },
-            sp: settings.sp_limits.pull(zero),
-            pv: zero,
-            out: settings.out_limits.pull(zero),
             hides_request,
         }
     }

@@ -27,14 +27,14 @@ module _ {L : Type 0} (l : LawModel L) (c : Control L Pulse) (s : Signal) where
   abbrev Below : Signal
   Below = (alone_model pulse_own).shown c.lower
 
-  pub lo_tracks : (after l c s).block.actual ≡ Lo → (after l c s).block.out ≡ c.track_value
+  pub lo_tracks : (after l c s).block.actual ≡ Lo → (after l c s).block.at.out ≡ c.track_value
   lo_tracks e = ap (λ (m : Mode). out_in l c m Below s) e
 
-  pub bad_below_holds : (after l c s).block.actual ≡ IMan → quality_of (shown_status c.lower.block) ≡ Bad → (after l c s).block.out ≡ c.block.out
-  bad_below_holds e q = ap (λ (m : Mode). out_in l c m Below s) e ∙ ap (λ (x : Quality). taken_back x Below.value c.block.out) q
+  pub bad_below_holds : (after l c s).block.actual ≡ IMan → quality_of (shown_status c.lower.block) ≡ Bad → (after l c s).block.at.out ≡ c.block.at.out
+  bad_below_holds e q = ap (λ (m : Mode). out_in l c m Below s) e ∙ ap (λ (x : Quality). taken_back x Below.value c.block.at.out) q
 
   pub sp_tracks_pv : (after l c s).block.actual ≡ Man → c.block.settings.options.track_pv ≡ true
-      → (after l c s).block.sp ≡ pulled c.block.settings.sp_limits (after l c s).block.pv
+      → (after l c s).block.at.sp ≡ pulled c.block.settings.sp_limits (after l c s).block.at.pv
   sp_tracks_pv e t = ap (λ (m : Mode). next_sp c.block m s.value) e ∙ cond-true _ _ _ t
 
   pub acknowledged_stays : c.block.actual ≡ Cas → c.block.target ≡ Cas → c.block.switch ≡ false

@@ -34,13 +34,13 @@ pub record Worked {L : Type 0} (l : LawModel L) : Type 0 where
   -- a control block adds 2 to the N of the pulse end below it
   pub control_over_pulse : (c : Control L Pulse) → (control_model l (alone_model pulse_own)).settling c ≡ 5
   -- in LO the output is the track value
-  pub lo_tracks : (c : Control L Pulse) (s : Signal) → (after l c s).block.actual ≡ Lo → (after l c s).block.out ≡ c.track_value
+  pub lo_tracks : (c : Control L Pulse) (s : Signal) → (after l c s).block.actual ≡ Lo → (after l c s).block.at.out ≡ c.track_value
   -- in IMan nothing is taken back from a Bad quality
   pub bad_below_holds : (c : Control L Pulse) (s : Signal) → (after l c s).block.actual ≡ IMan → quality_of (shown_status c.lower.block) ≡ Bad
-      → (after l c s).block.out ≡ c.block.out
+      → (after l c s).block.at.out ≡ c.block.at.out
   -- with option 04 the setpoint follows the process value as the round leaves it
   pub sp_tracks_pv : (c : Control L Pulse) (s : Signal) → (after l c s).block.actual ≡ Man → c.block.settings.options.track_pv ≡ true
-      → (after l c s).block.sp ≡ pulled c.block.settings.sp_limits (after l c s).block.pv
+      → (after l c s).block.at.sp ≡ pulled c.block.settings.sp_limits (after l c s).block.at.pv
   -- a block in Cas stays there on C4, with nothing in the way
   pub acknowledged_stays : (c : Control L Pulse) (s : Signal) → c.block.actual ≡ Cas → c.block.target ≡ Cas → c.block.switch ≡ false
       → usable c.block ≡ true → same_code (shown_status c.lower.block) 0xC0 ≡ true → s.status.0 ≡ 0xC4 → (after l c s).block.actual ≡ Cas

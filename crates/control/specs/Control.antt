@@ -29,17 +29,17 @@ away Man = 2
 away Auto = 1
 away Cas = 0
 
--- where a block stands
-abbrev pub point_of : Block → OperatingPoint
-point_of b = record { sp = b.sp; pv = b.pv; out = b.out }
-
 -- 1 and 3: setpoint and process value as a round brings them, at the last output
 abbrev pub brought_to : Block → Mode → Value → OperatingPoint
-brought_to b m above = record { sp = next_sp b m above; pv = next_pv b; out = b.out }
+brought_to b m above = record { sp = next_sp b m above; pv = next_pv b; out = b.at.out }
+
+-- the point that a round leaves: that, with the output as worked out
+abbrev pub left_at : OperatingPoint → Value → OperatingPoint
+left_at p out = record { sp = p.sp; pv = p.pv; out = out }
 
 -- 5: a law that is not stepped is started anew, with the numbers as the round leaves them
 abbrev pub next_law : {L : Type 0} → LawModel L → L → Mode → OperatingPoint → Value → L
-next_law l law m p out = cond (runs m) (l.stepped law p) (l.started law (record { sp = p.sp; pv = p.pv; out = out }))
+next_law l law m p out = cond (runs m) (l.stepped law p) (l.started law (left_at p out))
 
 abbrev pub with_law : {L E : Type 0} → Control L E → L → Control L E
 with_law s law = record { block = s.block; track_value = s.track_value; law = law; lower = s.lower }
@@ -58,7 +58,7 @@ module _ {L E : Type 0} (l : LawModel L) where
 
   abbrev pub ran_in : Control L E → Mode → Signal → Signal → Control L E
   ran_in s m below above = record {
-    block = moved s.block m (next_sp s.block m above.value) (next_pv s.block) (out_in s m below above) false;
+    block = moved s.block m (left_at (brought_to s.block m above.value) (out_in s m below above)) false;
     track_value = s.track_value;
     law = next_law l s.law m (brought_to s.block m above.value) (out_in s m below above);
     lower = s.lower;
@@ -82,9 +82,9 @@ module _ {L E : Type 0} (l : LawModel L) (e : EndModel E) where
   control_rounded s above = rounded_in s (mode_of s above) above
 
   pub record ControlKept (s : Control L E) : Type 0 where
-    pub sp_inside : Inside s.block.settings.sp_limits s.block.sp
+    pub sp_inside : Inside s.block.settings.sp_limits s.block.at.sp
     pub shows_request : s.block.hides_request ≡ false
-    pub started : s.block.actual ≡ IMan → (before : L) × (s.law ≡ l.started before (point_of s.block))
+    pub started : s.block.actual ≡ IMan → (before : L) × (s.law ≡ l.started before s.block.at)
     pub below : e.kept s.lower
 
   abbrev pub control_model : EndModel (Control L E)

@@ -5,7 +5,7 @@
 --     MadeInOrder l e n a d r    the same where law and end may have been refused before: the law's fault, then the end's
 --     MadeControl l n law d c    c is the control block of the numbers n, fresh, with its law started there, over the end d
 use Rattle.std.specs.Prelude.{◌≡◌, ℕ, ◌<◌, ◌≤◌, true, false, is_some, Some, Ok, Err, Result}
-use Rattle.block.specs.Making.{ProperAround, permitted_of, options_of, end_fault_number, fresh_block}
+use Rattle.block.specs.Making.{ProperAround, permitted_of, options_of, end_fault_number, not_connected, fresh_block}
 use Rattle.block.specs.Meaning.{EndModel}
 use Rattle.block.specs.declared.fault.EndFault.{EndFault}
 use Rattle.block.specs.declared.kinds.Settings.{Settings}
@@ -14,7 +14,7 @@ use Rattle.law.specs.Law.{LawModel}
 use Rattle.law.specs.declared.fault.LawFault.{LawFault}
 use Rattle.signal.specs.Limits.{ProperLimits}
 use Rattle.signal.specs.declared.kinds.Limits.{Limits}
-use Rattle.control.specs.Control.{point_of, ControlKept}
+use Rattle.control.specs.Control.{ControlKept}
 use Rattle.control.specs.declared.fault.ControlFault.{ControlFault}
 use Rattle.control.specs.declared.fault.ControlFault.TheVariants.{Law, End, BadLimits, BadPermitted, BadOptions, TooManyBlocks}
 use Rattle.control.specs.declared.kinds.Control.{Control}
@@ -57,19 +57,18 @@ pub record LimitsOf (n : ControlSetup) (sp out : Limits) : Type 0 where
   pub out_low_is : out.low.raw ≡ n.out_low
   pub out_high_is : out.high.raw ≡ n.out_high
 
--- the settings are those of the numbers; a control block has all five calls
+-- the settings are those of the numbers; a control block takes an output
 pub record SettingsOf (n : ControlSetup) (st : Settings) : Type 0 where
   pub limits : LimitsOf n st.sp_limits st.out_limits
   pub permitted : Some st.permitted ≡ permitted_of n.permitted
   pub options : Some st.options ≡ options_of n.options
-  pub input : st.takes_input ≡ true
   pub output : st.takes_output ≡ true
 
 pub record MadeControl {L E : Type 0} (l : LawModel L) (n : ControlSetup) (law : L) (d : E) (c : Control L E) : Type 0 where
   pub settings : SettingsOf n c.block.settings
-  pub fresh : c.block ≡ fresh_block c.block.settings false
+  pub fresh : c.block ≡ fresh_block c.block.settings (Some not_connected) false
   pub track : c.track_value.raw ≡ n.track_value
-  pub started : c.law ≡ l.started law (point_of c.block)
+  pub started : c.law ≡ l.started law c.block.at
   pub over : c.lower ≡ d
 
 module _ {L E : Type 0} (l : LawModel L) (e : EndModel E) where

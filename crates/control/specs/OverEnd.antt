@@ -1,5 +1,5 @@
 -- A control block over any lower end, with any law, is a lower end. Assumes nothing.
-use Rattle.std.specs.Prelude.{◌≡◌, ℕ, zero, suc, ◌+◌, ◌*◌, ◌<◌, ◌≤◌, true, false, cond, ◌&&◌, ◌≢◌, ◌⊎◌, Ok, Err, ◌==◌, refl}
+use Rattle.std.specs.Prelude.{◌≡◌, ℕ, zero, suc, ◌+◌, ◌*◌, ◌<◌, ◌≤◌, true, false, cond, ◌&&◌, ◌≢◌, ◌⊎◌, Some, Option, Ok, Err, ◌==◌, refl}
 use Rattle.std.proofs.Common.{sym, ◌∙◌, ap, subst, inl, ⊎_elim, arith}
 use Rattle.std.proofs.lemmas.Bool.{cond-true, cond-false, cond_both, eqb-true, eq-eqb, ne_eqb}
 use Rattle.signal.specs.Limits.{pulled, Inside}
@@ -12,12 +12,12 @@ use Rattle.signal.specs.declared.mode.Mode.{Mode}
 use Rattle.signal.specs.declared.mode.Mode.TheVariants.{OutOfService, IMan, Lo, Auto, Cas}
 use Rattle.signal.specs.declared.status.Signal.{Signal}
 use Rattle.law.specs.Law.{LawModel, LawMeaning}
-use Rattle.block.proofs.Asks.{Standing, standing, Unwritten, unwritten, sp_cases, refused_same}
+use Rattle.block.specs.Asks.{Standing, standing, same_make, unwritten, sp_cases, refused_same}
 use Rattle.block.proofs.Next.{next_os, next_cas_target, next_cas_asked, next_free, cas_shows, shows_plain}
 use Rattle.block.proofs.Pulled.{pulled_same, pulled_inside}
 use Rattle.block.specs.Calls.{after_ask, answer_of}
 use Rattle.block.specs.Lines.{usable, keeps_cas, cause_of, moved}
-use Rattle.block.specs.Meaning.{EndModel, Meaning, SameBuild, Untouched, Ready, AllCas, invited}
+use Rattle.block.specs.Meaning.{EndModel, Meaning, SameMake, SameBuild, Untouched, Ready, AllCas, invited}
 use Rattle.block.specs.Modes.{is_cas}
 use Rattle.block.specs.Shown.{shown_status, reading_of}
 use Rattle.block.specs.declared.kinds.Ask.{Ask}
@@ -25,8 +25,8 @@ use Rattle.block.specs.declared.kinds.Block.{Block}
 use Rattle.block.specs.declared.kinds.Refusal.{Refusal}
 use Rattle.block.specs.declared.kinds.Refusal.TheVariants.{NoSuchBlock}
 use Rattle.control.specs.Sent.{away_most, away_none, sp_inside, acknowledged, asked_back, invites, nearer}
-use Rattle.control.specs.Control.{away, brought_to, next_law, point_of, mode_of, out_in, sent_in, with_block, with_lower, ControlKept, control_model}
-use Rattle.control.specs.Steps.{next_sp}
+use Rattle.control.specs.Control.{away, brought_to, next_law, left_at, mode_of, out_in, sent_in, with_block, with_lower, ControlKept, control_model}
+use Rattle.control.specs.Steps.{taken_in, next_sp}
 use Rattle.control.specs.declared.kinds.Control.{Control}
 
 not_iman : OutOfService ≡ IMan → ⊥
@@ -43,11 +43,11 @@ module _ {L E : Type 0} (l : LawModel L) (e : EndModel E) (lm : LawMeaning l) (e
   some_kept : Control L E → (s : Control L E) × ControlKept l e s
   some_kept s =
       let b : Block = s.block in
-      let sp : Value = pulled b.settings.sp_limits b.sp in
+      let sp : Value = pulled b.settings.sp_limits b.at.sp in
       let d = em.some_kept s.lower in (
-        record { block = moved b OutOfService sp b.pv b.out false; track_value = s.track_value; law = s.law; lower = d.0 },
+        record { block = moved b OutOfService (record { sp = sp; pv = b.at.pv; out = b.at.out }) false; track_value = s.track_value; law = s.law; lower = d.0 },
         record {
-          sp_inside = pulled_inside b.settings.sp_limits b.sp;
+          sp_inside = pulled_inside b.settings.sp_limits b.at.sp;
           shows_request = refl;
           started = λ i. absurd (not_iman i);
           below = d.1;
@@ -62,8 +62,7 @@ module _ {L E : Type 0} (l : LawModel L) (e : EndModel E) (lm : LawMeaning l) (e
         shows_request = st.hides ∙ h.shows_request;
         started = λ i.
             let im : s.block.actual ≡ IMan = sym st.actual ∙ i in
-            let un : Unwritten s.block (after_ask s.block a) = unwritten s.block a im in
-            ((h.started im).0, rw (st.pv, un.sp, un.out) (h.started im).1);
+            ((h.started im).0, rw (unwritten s.block a im) (h.started im).1);
         below = h.below;
       }
   kept_asked s (suc k) a h = record {
@@ -74,7 +73,7 @@ module _ {L E : Type 0} (l : LawModel L) (e : EndModel E) (lm : LawMeaning l) (e
   }
 
   started_in : (law : L) (m : Mode) (p : OperatingPoint) (out : Value) → m ≡ IMan
-      → next_law l law m p out ≡ l.started law (record { sp = p.sp; pv = p.pv; out = out })
+      → next_law l law m p out ≡ l.started law (left_at p out)
   started_in law m p out i = ap (λ (n : Mode). next_law l law n p out) i
 
   kept_rounded : (s : Control L E) (c : Signal) → ControlKept l e s → ControlKept l e (M.rounded s c)
@@ -87,29 +86,29 @@ module _ {L E : Type 0} (l : LawModel L) (e : EndModel E) (lm : LawMeaning l) (e
 
   -- each fact of the block of a number: the control block's own at 0, and below it that of the number before
   fixed_asked : (s : Control L E) (k : ℕ) (a : Ask) → ControlKept l e s → SameBuild M s (M.asked s k a)
-  fixed_asked s zero a h = record { size = refl; settling = refl; settings = settings }
+  fixed_asked s zero a h = record { size = refl; settling = refl; blocks = blocks }
     where
-      settings : (j : ℕ) → j < M.size s → (M.block (M.asked s 0 a) j).settings ≡ (M.block s j).settings
-      settings zero lt = (standing s.block a).settings
-      settings (suc j) lt = refl
-  fixed_asked s (suc k) a h = record { size = ap (λ (n : ℕ). n + 1) f.size; settling = ap (λ (n : ℕ). n + 2) f.settling; settings = settings }
+      blocks : (j : ℕ) → j < M.size s → SameMake (M.block s j) (M.block (M.asked s 0 a) j)
+      blocks zero lt = same_make s.block a
+      blocks (suc j) lt = record { settings = refl; has_input = refl }
+  fixed_asked s (suc k) a h = record { size = ap (λ (n : ℕ). n + 1) f.size; settling = ap (λ (n : ℕ). n + 2) f.settling; blocks = blocks }
     where
       f : SameBuild e s.lower (e.asked s.lower k a)
       f = em.fixed_asked s.lower k a h.below
 
-      settings : (j : ℕ) → j < M.size s → (M.block (M.asked s (suc k) a) j).settings ≡ (M.block s j).settings
-      settings zero lt = refl
-      settings (suc j) lt = f.settings j (omega arith)
+      blocks : (j : ℕ) → j < M.size s → SameMake (M.block s j) (M.block (M.asked s (suc k) a) j)
+      blocks zero lt = record { settings = refl; has_input = refl }
+      blocks (suc j) lt = f.blocks j (omega arith)
 
   fixed_rounded : (s : Control L E) (c : Signal) → ControlKept l e s → SameBuild M s (M.rounded s c)
-  fixed_rounded s c h = record { size = ap (λ (n : ℕ). n + 1) f.size; settling = ap (λ (n : ℕ). n + 2) f.settling; settings = settings }
+  fixed_rounded s c h = record { size = ap (λ (n : ℕ). n + 1) f.size; settling = ap (λ (n : ℕ). n + 2) f.settling; blocks = blocks }
     where
       f : SameBuild e s.lower (e.rounded s.lower (Sent s c))
       f = em.fixed_rounded s.lower (Sent s c) h.below
 
-      settings : (j : ℕ) → j < M.size s → (M.block (M.rounded s c) j).settings ≡ (M.block s j).settings
-      settings zero lt = refl
-      settings (suc j) lt = f.settings j (omega arith)
+      blocks : (j : ℕ) → j < M.size s → SameMake (M.block s j) (M.block (M.rounded s c) j)
+      blocks zero lt = record { settings = refl; has_input = refl }
+      blocks (suc j) lt = f.blocks j (omega arith)
 
   settling_range : (s : Control L E) → ControlKept l e s → (1 ≤ M.settling s) × (M.settling s ≤ 1000 * M.size s)
   settling_range s h = let r = em.settling_range s.lower h.below in (omega arith, omega arith)
@@ -177,14 +176,14 @@ module _ {L E : Type 0} (l : LawModel L) (e : EndModel E) (lm : LawMeaning l) (e
 
   first_keeps_sp : (s : Control L E) (c : Signal) → ControlKept l e s
       → (M.block s 0).actual ≢ Cas → (M.block (M.rounded s c) 0).actual ≡ Cas
-      → c.value ≡ (M.block s 0).sp → (M.block (M.rounded s c) 0).sp ≡ (M.block s 0).sp
+      → c.value ≡ (M.block s 0).at.sp → (M.block (M.rounded s c) 0).at.sp ≡ (M.block s 0).at.sp
   first_keeps_sp s c h n q v =
       ap (λ (m : Mode). next_sp s.block m c.value) q
-      ∙ ap (pulled s.block.settings.sp_limits) v ∙ pulled_same s.block.settings.sp_limits s.block.sp h.sp_inside
+      ∙ ap (pulled s.block.settings.sp_limits) v ∙ pulled_same s.block.settings.sp_limits s.block.at.sp h.sp_inside
 
   -- an end that comes into Cas was sent what it shows
   sent_back : (s : Control L E) (c : Signal) → ControlKept l e s → same_code (Sent s c).status.0 0xC4 ≡ true
-      → (Sent s c).value ≡ (e.block s.lower 0).sp
+      → (Sent s c).value ≡ (e.block s.lower 0).at.sp
   sent_back s c h q =
       let a = acknowledged s.block (mode_of l e s c) (e.shown s.lower).status.0 c.status.0 q in
       ap (λ (m : Mode). out_in l s m (e.shown s.lower) c) a.0
@@ -192,7 +191,7 @@ module _ {L E : Type 0} (l : LawModel L) (e : EndModel E) (lm : LawMeaning l) (e
       (l.answer s.law (brought_to s.block IMan c.value)) a.1 ∙ ap (λ (x : Signal). x.value) (em.shows s.lower h.below)
 
   inner_keeps_sp : (s : Control L E) (c : Signal) (k : ℕ) → ControlKept l e s → 0 < k → k < M.size s
-      → (M.block s k).actual ≢ Cas → (M.block (M.rounded s c) k).actual ≡ Cas → (M.block (M.rounded s c) k).sp ≡ (M.block s k).sp
+      → (M.block s k).actual ≢ Cas → (M.block (M.rounded s c) k).actual ≡ Cas → (M.block (M.rounded s c) k).at.sp ≡ (M.block s k).at.sp
   inner_keeps_sp s c zero h p lt n q = absurd (omega arith)
   inner_keeps_sp s c (suc zero) h p lt n q =
       em.first_keeps_sp s.lower (Sent s c) h.below n q
@@ -200,24 +199,24 @@ module _ {L E : Type 0} (l : LawModel L) (e : EndModel E) (lm : LawMeaning l) (e
   inner_keeps_sp s c (suc (suc j)) h p lt n q =
       em.inner_keeps_sp s.lower (Sent s c) (suc j) h.below (omega arith) (omega arith) n q
 
-  takes_pv : (s : Control L E) (c : Signal) (k : ℕ) → ControlKept l e s → k < M.size s → (M.block s k).settings.takes_input ≡ true
-      → (M.block (M.rounded s c) k).pv ≡ cond (usable (M.block s k)) (M.block s k).input.value (M.block s k).pv
-  takes_pv s c zero h lt t = refl
-  takes_pv s c (suc j) h lt t = em.takes_pv s.lower (Sent s c) j h.below (omega arith) t
+  takes_pv : (s : Control L E) (c : Signal) (k : ℕ) (i : Signal) → ControlKept l e s → k < M.size s → (M.block s k).input ≡ Some i
+      → (M.block (M.rounded s c) k).at.pv ≡ cond (usable (M.block s k)) i.value (M.block s k).at.pv
+  takes_pv s c zero i h lt t = ap (λ (o : Option Signal). taken_in o (usable s.block) s.block.at.pv) t
+  takes_pv s c (suc j) i h lt t = em.takes_pv s.lower (Sent s c) j i h.below (omega arith) t
 
-  keeps_out : (s : Control L E) (c : Signal) (k : ℕ) → ControlKept l e s → k < M.size s → (M.block s k).settings.takes_input ≡ true
+  keeps_out : (s : Control L E) (c : Signal) (k : ℕ) (i : Signal) → ControlKept l e s → k < M.size s → (M.block s k).input ≡ Some i
       → (M.block s k).actual ≡ IMan → (M.block (M.rounded s c) k).actual ≡ Auto
-      → (M.block s k).sp ≡ (M.block s k).pv
-      → (M.block (M.rounded s c) k).sp ≡ (M.block s k).sp → (M.block (M.rounded s c) k).pv ≡ (M.block s k).pv
-      → (M.block (M.rounded s c) k).out ≡ pulled (M.block s k).settings.out_limits (M.block s k).out
-  keeps_out s c zero h lt t im au eq sp pv =
+      → (M.block s k).at.sp ≡ (M.block s k).at.pv
+      → (M.block (M.rounded s c) k).at.sp ≡ (M.block s k).at.sp → (M.block (M.rounded s c) k).at.pv ≡ (M.block s k).at.pv
+      → (M.block (M.rounded s c) k).at.out ≡ pulled (M.block s k).settings.out_limits (M.block s k).at.out
+  keeps_out s c zero i h lt t im au eq sp pv =
       let b : Block = s.block in
       let st = h.started im in
       ap (λ (m : Mode). out_in l s m (e.shown s.lower) c) au
       ∙ ap (pulled b.settings.out_limits)
-      (ap (λ (v : Value). l.answer s.law (record { sp = b.sp; pv = v; out = b.out })) pv
-      ∙ ap (λ (x : L). l.answer x (point_of b)) st.1 ∙ lm.starting_rule st.0 (point_of b) eq)
-  keeps_out s c (suc j) h lt t im au eq sp pv = em.keeps_out s.lower (Sent s c) j h.below (omega arith) t im au eq sp pv
+      (ap (λ (v : Value). l.answer s.law (record { sp = b.at.sp; pv = v; out = b.at.out })) pv
+      ∙ ap (λ (x : L). l.answer x b.at) st.1 ∙ lm.starting_rule st.0 b.at eq)
+  keeps_out s c (suc j) i h lt t im au eq sp pv = em.keeps_out s.lower (Sent s c) j i h.below (omega arith) t im au eq sp pv
 
   near : (s : Control L E) → ControlKept l e s → M.distance s ≤ M.settling s
   near s h =

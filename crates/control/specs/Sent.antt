@@ -37,11 +37,11 @@ away_none Auto h = absurd (omega arith)
 away_none Cas h = refl
 
 -- the setpoint stays inside its limits
-tracked_inside : (b : Block) → Inside b.settings.sp_limits b.sp → Inside b.settings.sp_limits (tracked_sp b)
+tracked_inside : (b : Block) → Inside b.settings.sp_limits b.at.sp → Inside b.settings.sp_limits (tracked_sp b)
 tracked_inside b h =
     cond_both b.settings.options.track_pv _ _ (Inside b.settings.sp_limits) (λ _. pulled_inside b.settings.sp_limits _) (λ _. h)
 
-pub sp_inside : (b : Block) (m : Mode) (v : Value) → Inside b.settings.sp_limits b.sp → Inside b.settings.sp_limits (next_sp b m v)
+pub sp_inside : (b : Block) (m : Mode) (v : Value) → Inside b.settings.sp_limits b.at.sp → Inside b.settings.sp_limits (next_sp b m v)
 sp_inside b OutOfService v h = h
 sp_inside b IMan v h = tracked_inside b h
 sp_inside b Lo v h = tracked_inside b h
@@ -74,7 +74,7 @@ pub asked_back : (b : Block) (below : Signal) (track law : Value) → same_code 
     → next_out b IMan below track law ≡ below.value
 asked_back b below track law h =
     let e : below.status.0 ≡ 0xC8 = eqb-true _ _ h in
-    let P : ℕ → Type 0 = λ x. taken_back (quality_of x) below.value b.out ≡ below.value in
+    let P : ℕ → Type 0 = λ x. taken_back (quality_of x) below.value b.at.out ≡ below.value in
     subst P (sym e) refl
 
 -- with nothing in the way, an end below gets C4 if it asks, else C0

@@ -3,7 +3,7 @@
 --     next_sp b m above             3: the setpoint in the mode m that the round brings
 --     next_out b m below track law  4: the output in that mode, with what the law's step answers
 --     sent_status b m below above   6: the status that goes down with the output
-use Rattle.std.specs.Prelude.{ℕ, Bool, cond, not, ◌&&◌, ◌||◌}
+use Rattle.std.specs.Prelude.{ℕ, Bool, cond, not, ◌&&◌, ◌||◌, Some, None, Option}
 use Rattle.signal.specs.Limits.{pulled}
 use Rattle.signal.specs.Status.{same_code, quality_of}
 use Rattle.signal.specs.declared.kinds.Value.{Value}
@@ -16,19 +16,23 @@ use Rattle.block.specs.Lines.{usable}
 use Rattle.block.specs.Modes.{is_os, is_iman, is_cas, runs}
 use Rattle.block.specs.declared.kinds.Block.{Block}
 
+abbrev pub taken_in : Option Signal → Bool → Value → Value
+taken_in None usable pv = pv
+taken_in (Some i) usable pv = cond usable i.value pv
+
 abbrev pub next_pv : Block → Value
-next_pv b = cond (usable b) b.input.value b.pv
+next_pv b = taken_in b.input (usable b) b.at.pv
 
 -- with the option that the setpoint tracks the process value
 abbrev pub tracked_sp : Block → Value
-tracked_sp b = cond b.settings.options.track_pv (pulled b.settings.sp_limits (next_pv b)) b.sp
+tracked_sp b = cond b.settings.options.track_pv (pulled b.settings.sp_limits (next_pv b)) b.at.sp
 
 abbrev pub next_sp : Block → Mode → Value → Value
-next_sp b OutOfService above = b.sp
+next_sp b OutOfService above = b.at.sp
 next_sp b IMan above = tracked_sp b
 next_sp b Lo above = tracked_sp b
 next_sp b Man above = tracked_sp b
-next_sp b Auto above = b.sp
+next_sp b Auto above = b.at.sp
 next_sp b Cas above = pulled b.settings.sp_limits above
 
 -- what is shown below, save that nothing is taken from a Bad one
@@ -39,10 +43,10 @@ taken_back Good below out = below
 taken_back GoodCascade below out = below
 
 abbrev pub next_out : Block → Mode → Signal → Value → Value → Value
-next_out b OutOfService below track law = b.out
-next_out b IMan below track law = taken_back (quality_of below.status.0) below.value b.out
+next_out b OutOfService below track law = b.at.out
+next_out b IMan below track law = taken_back (quality_of below.status.0) below.value b.at.out
 next_out b Lo below track law = track
-next_out b Man below track law = b.out
+next_out b Man below track law = b.at.out
 next_out b Auto below track law = pulled b.settings.out_limits law
 next_out b Cas below track law = pulled b.settings.out_limits law
 

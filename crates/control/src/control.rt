@@ -16,7 +16,7 @@ impl<L: Law, E: LowerEnd> Control<L, E> {
         ensures answer { result ≡ next_out self.old.block mode bkcal_in self.old.track_value (L.Law.model.answer self.old.law at) }
         ensures after { self.new ≡ with_law self.old (next_law L.Law.model self.old.law mode at result) }
     {
-        let last = self.block.out;
+        let last = self.block.at.out;
         let out = match mode {
             Mode::Auto | Mode::Cas => {
                 let answer = self.law.step(at);
@@ -38,11 +38,12 @@ impl<L: Law, E: LowerEnd> Control<L, E> {
         let at = OperatingPoint {
             sp: next_sp(&self.block, mode, cas_in.value),
             pv: next_pv(&self.block),
-            out: self.block.out,
+            out: self.block.at.out,
         };
         let status = sent_status(&self.block, mode, bkcal_in.status, cas_in.status);
         let out = self.run_law(mode, bkcal_in, at);
-        self.block.move_to(mode, at.sp, at.pv, out, false);
+        self.block
+            .move_to(mode, OperatingPoint { out, ..at }, false);
         Signal { value: out, status }
     }
 }

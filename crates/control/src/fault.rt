@@ -1,9 +1,9 @@
 // Why a control block was not made. The fault of a law or of an end is carried whole.
 ghost use Rattle.std.specs.Prelude.{◌≡◌};
 ghost use Rattle.control.specs.Making.{control_fault_number};
-ghost use Rattle.control.specs.declared.fault.ControlFault.TheVariants.{Law, End, BadLimits};
+ghost use Rattle.control.specs.declared.fault.ControlFault.TheVariants.{Law, End, BadLimits, BadPermitted, BadOptions};
 
-use block::EndFault;
+use block::{EndFault, OptionsFault, PermittedFault};
 use law::LawFault;
 use signal::{LimitsFault, Numbered};
 
@@ -54,6 +54,26 @@ impl From<LimitsFault> for ControlFault {
     fn from(f: LimitsFault) -> ControlFault {
         match f {
             LimitsFault::BadLimits => ControlFault::BadLimits,
+        }
+    }
+}
+
+impl From<PermittedFault> for ControlFault {
+    ghost from_gives = { λ f r. r ≡ BadPermitted };
+
+    fn from(f: PermittedFault) -> ControlFault {
+        match f {
+            PermittedFault::BadPermitted => ControlFault::BadPermitted,
+        }
+    }
+}
+
+impl From<OptionsFault> for ControlFault {
+    ghost from_gives = { λ f r. r ≡ BadOptions };
+
+    fn from(f: OptionsFault) -> ControlFault {
+        match f {
+            OptionsFault::BadOptions => ControlFault::BadOptions,
         }
     }
 }

@@ -1,49 +1,38 @@
 // Making a control block.
 ghost use Rattle.std.specs.Prelude.{◌≡◌, MatchResult};
-ghost use Rattle.control.specs.declared.fault.ControlFault.TheVariants.{BadLimits};
 ghost use Rattle.control.specs.Making.{GoodLimits, LimitsOf, AllGood, FirstFault, SettingsOf, NewControl, MadeInOrder};
 
 use crate::fault::ControlFault;
 use crate::kinds::{Control, ControlSetup};
-use block::{Block, EndFault, LowerEnd, Options, Permitted, Settings, limits_around};
+use block::{Block, Bounded, EndFault, LowerEnd, Options, Permitted, Settings};
 use law::{Law, LawFault};
-use signal::{Limits, OperatingPoint, Value};
+use signal::{Limits, LimitsFault, Signal, Status, Value};
 
 // The most blocks that a control block may stand over.
 const MOST_BELOW: u8 = 15;
 
 impl ControlSetup {
-    fn limits(&self) -> Result<(Limits, Limits, Value), ControlFault>
-        ensures { MatchResult result (λ x. GoodLimits self.now × LimitsOf self.now x.0 x.1 × (x.2.raw ≡ self.now.track_value)) (λ f. (f ≡ BadLimits) × (GoodLimits self.now → ⊥)) }
+    // The setpoint's limits, and the output's with the track value inside them.
+    fn limits(&self) -> Result<(Limits, Bounded), LimitsFault>
+        ensures { MatchResult result (λ x. GoodLimits self.now × LimitsOf self.now x.0 x.1.limits × (x.1.value.raw ≡ self.now.track_value)) (λ _. GoodLimits self.now → ⊥) }
     {
         let sp_limits = Limits::new(self.sp_low, self.sp_high)?;
-        let (out_limits, track_value) = limits_around(
-            self.out_low,
-            self.out_high,
-            self.track_value,
-        )?;
-        Ok((sp_limits, out_limits, track_value))
+        let out = Bounded::new(self.out_low, self.out_high, self.track_value)?;
+        Ok((sp_limits, out))
     }
 
     fn settings(&self) -> Result<(Settings, Value), ControlFault>
         ensures { MatchResult result (λ x. AllGood self.now 0 × SettingsOf self.now x.0 × (x.1.raw ≡ self.now.track_value)) (FirstFault self.now 0) }
     {
-        let (sp_limits, out_limits, track_value) = self.limits()?;
-        let Some(permitted) = Permitted::from_byte(self.permitted) else {
-            return Err(ControlFault::BadPermitted);
-        };
-        let Some(options) = Options::from_byte(self.options) else {
-            return Err(ControlFault::BadOptions);
-        };
+        let (sp_limits, out) = self.limits()?;
         let settings = Settings {
             sp_limits,
-            out_limits,
-            permitted,
-            options,
-            takes_input: true,
+            out_limits: out.limits,
+            permitted: Permitted::try_from(self.permitted)?,
+            options: Options::try_from(self.options)?,
             takes_output: true,
         };
-        Ok((settings, track_value))
+        Ok((settings, out.value))
     }
 }
 
@@ -56,12 +45,8 @@ impl<L: Law + Drop, E: LowerEnd + Drop> Control<L, E> {
         if lower.blocks() > MOST_BELOW {
             return Err(ControlFault::TooManyBlocks);
         }
-        let block = Block::fresh(settings, false);
-        law.start(OperatingPoint {
-            sp: block.sp,
-            pv: block.pv,
-            out: block.out,
-        });
+        let block = Block::fresh(settings, Some(Signal::new(0, Status::NOT_CONNECTED)), false);
+        law.start(block.at);
         Ok(Control {
             block,
             track_value,

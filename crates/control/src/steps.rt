@@ -1,4 +1,5 @@
-// The steps of a control block's round that need neither its law nor what is below.
+// The steps of a control block's round that need neither its law nor what is below. They are functions and no methods:
+// `Block` is another crate's, and a control block alone has these steps.
 ghost use Rattle.std.specs.Prelude.{◌≡◌};
 ghost use Rattle.control.specs.Steps.{next_pv, tracked_sp, next_sp, taken_back, sends_fault, sent_status};
 ghost use Rattle.signal.specs.Status.{quality_of};
@@ -9,10 +10,9 @@ use signal::{Mode, Quality, Signal, Status, Value};
 pub(crate) fn next_pv(block: &Block) -> Value
     ensures { result ≡ next_pv block.now }
 {
-    if block.usable() {
-        block.input.value
-    } else {
-        block.pv
+    match block.input {
+        Some(input) if block.usable() => input.value,
+        _ => block.at.pv,
     }
 }
 
@@ -22,7 +22,7 @@ pub(crate) fn tracked_sp(block: &Block) -> Value
     if block.settings.options.track_pv {
         block.settings.sp_limits.pull(next_pv(block))
     } else {
-        block.sp
+        block.at.sp
     }
 }
 
@@ -32,7 +32,7 @@ pub(crate) fn next_sp(block: &Block, mode: Mode, cas_in: Value) -> Value
     match mode {
         Mode::Cas => block.settings.sp_limits.pull(cas_in),
         Mode::Man | Mode::IMan | Mode::Lo => tracked_sp(block),
-        Mode::OutOfService | Mode::Auto => block.sp,
+        Mode::OutOfService | Mode::Auto => block.at.sp,
     }
 }
 

@@ -12,7 +12,7 @@ use Rattle.ends.specs.Worked.{InCas, InAuto, ThirdFaults, Worked}
 use Rattle.ends.specs.declared.analog.Analog.{Analog}
 use Rattle.ends.specs.declared.pulse.Pulse.{Pulse}
 
-third_faults : (a : Analog) (u v w : Value) → AnalogKept a → InCas a → a.fault_time ≡ 3 → a.count ≡ 0 → ThirdFaults a u v w
+third_faults : (a : Analog) (u v w : Value) → AnalogKept a → InCas a → a.fault_time.number ≡ 3 → a.count ≡ 0 → ThirdFaults a u v w
 third_faults a u v w k i t n =
     let target = i.target in
     let actual = i.actual in
@@ -25,7 +25,7 @@ third_faults a u v w k i t n =
       shows = simp (target, actual, off, input, t, n);
     }
 
-auto_out : (p : Pulse) (c : Signal) → PulseKept p → InAuto p → (pulse_own.rounded p c).block.out ≡ stepped p.block.out p.travel p.block.sp
+auto_out : (p : Pulse) (c : Signal) → PulseKept p → InAuto p → (pulse_own.rounded p c).block.at.out ≡ stepped p.block.at.out p.travel.number p.block.at.sp
 auto_out p c k i =
     let target = i.target in
     let off = i.off in
@@ -52,6 +52,6 @@ worked = record {
   analog_settles_in_2 = λ a. refl;
   pulse_settles_in_3 = λ p. refl;
   fault_time_3 = third_faults;
-  rests_at_99 = λ p c k i t e. auto_out p c k i ∙ rests p.block.out p.block.sp p.travel t e;
-  raises_at_100 = λ p c k i t e. ap (λ (x : Value). x.raw) (auto_out p c k i) ∙ raises p.block.out p.block.sp p.travel t e;
+  rests_at_99 = λ p c k i t e. auto_out p c k i ∙ rests p.block.at.out p.block.at.sp p.travel.number t e;
+  raises_at_100 = λ p c k i t e. ap (λ (x : Value). x.raw) (auto_out p c k i) ∙ raises p.block.at.out p.block.at.sp p.travel.number t e;
 }

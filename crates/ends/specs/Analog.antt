@@ -6,7 +6,7 @@
 --     analog_count a s      the faulty rounds in a row, with this one on the status s, up to the fault time; 0 off target Cas
 --     analog_faulty a s     that count is at the fault time: the fault line fits
 --     analog_out a m aim    OUT after a round that brings the mode m, with the setpoint `aim`
-use Rattle.std.specs.Prelude.{◌≡◌, ℕ, ◌+◌, ◌≤◌, Bool, true, false, cond, not, ◌&&◌, ◌||◌, ◌==◌, nat_lt}
+use Rattle.std.specs.Prelude.{◌≡◌, ℕ, ◌+◌, Bool, true, false, cond, not, ◌&&◌, ◌||◌, ◌==◌, nat_lt}
 use Rattle.signal.specs.Limits.{Inside}
 use Rattle.signal.specs.Status.{same_code, quality_of}
 use Rattle.signal.specs.declared.kinds.Value.{Value}
@@ -34,10 +34,10 @@ brings_fault s = same_code s 0xE0 || is_bad (quality_of s)
 
 abbrev pub analog_count : Analog → ℕ → ℕ
 analog_count a s =
-    cond (is_cas a.block.target && brings_fault s) (cond (nat_lt a.count a.fault_time) (a.count + 1) a.fault_time) 0
+    cond (is_cas a.block.target && brings_fault s) (cond (nat_lt a.count a.fault_time.number) (a.count + 1) a.fault_time.number) 0
 
 abbrev pub analog_faulty : Analog → ℕ → Bool
-analog_faulty a s = analog_count a s == a.fault_time
+analog_faulty a s = analog_count a s == a.fault_time.number
 
 abbrev pub sets_value : FaultAction → Bool
 sets_value Hold = false
@@ -45,10 +45,10 @@ sets_value SetValue = true
 
 -- LO by fault is LO with the switch off
 abbrev pub analog_out : Analog → Mode → Value → Value
-analog_out a OutOfService aim = a.block.out
-analog_out a IMan aim = a.block.out
-analog_out a Lo aim = cond (not a.block.switch && sets_value a.fault_action) a.fault_value a.block.out
-analog_out a Man aim = a.block.out
+analog_out a OutOfService aim = a.block.at.out
+analog_out a IMan aim = a.block.at.out
+analog_out a Lo aim = cond (not a.block.switch && sets_value a.fault_action) a.fault_value a.block.at.out
+analog_out a Man aim = a.block.at.out
 analog_out a Auto aim = aim
 analog_out a Cas aim = aim
 
@@ -71,7 +71,6 @@ analog_rounded a c = record { block = analog_after a c; fault_time = a.fault_tim
 pub record AnalogKept (a : Analog) : Type 0 where
   pub block : KeptBlock a.block
   pub value_inside : Inside a.block.settings.sp_limits a.fault_value
-  pub time : 1 ≤ a.fault_time
   pub shows_request : a.block.hides_request ≡ false
 
 -- one round from Auto to Cas, two from any other mode

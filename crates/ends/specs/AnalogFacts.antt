@@ -1,6 +1,6 @@
 -- An analog end shows all that an end of one block owes. Assumes nothing.
 use Rattle.std.specs.Prelude.{◌≡◌, ℕ, ◌<◌, ◌≤◌, Bool, true, false, cond, not, ◌&&◌, ◌⊎◌, refl}
-use Rattle.std.proofs.Common.{ap, ◌∙◌, inl, inr, arith, lit<, lit≤}
+use Rattle.std.proofs.Common.{◌∙◌, inl, inr, arith, lit<, lit≤}
 use Rattle.std.proofs.lemmas.Bool.{cond_both}
 use Rattle.std.proofs.lemmas.Bool.Decides.{nat_tests}
 use Rattle.signal.specs.Limits.{Inside}
@@ -10,15 +10,13 @@ use Rattle.signal.specs.declared.kinds.Value.{Value}
 use Rattle.signal.specs.declared.mode.Mode.{Mode}
 use Rattle.signal.specs.declared.mode.Mode.TheVariants.{OutOfService, IMan, Lo, Man, Auto, Cas}
 use Rattle.signal.specs.declared.status.Signal.{Signal}
-use Rattle.block.proofs.Asks.{standing}
-use Rattle.block.proofs.Next.{next_os, next_cas_asked, next_cas_target}
+use Rattle.block.specs.Asks.{standing}
 use Rattle.block.proofs.Pulled.{low_inside}
 use Rattle.block.specs.Alone.{AloneFacts, alone_model}
-use Rattle.block.specs.Lines.{cause_of}
 use Rattle.block.specs.Calls.{after_ask}
 use Rattle.block.specs.Shown.{shown_status}
 use Rattle.block.specs.declared.kinds.Ask.{Ask}
-use Rattle.ends.specs.Rounds.{fresh_kept, block_asked, block_rounded, untouched, keeps_sp, aim_inside, led, invited_mode}
+use Rattle.ends.specs.Rounds.{fresh_kept, block_asked, block_rounded, round_owes, aim_inside, led, invited_mode}
 use Rattle.ends.specs.Analog.{brings_fault, analog_faulty, analog_out, analog_mode, analog_aim, analog_rounded, AnalogKept, analog_away, analog_own, sets_value, analog_with}
 use Rattle.ends.specs.Making.{fresh_analog}
 use Rattle.ends.specs.declared.analog.Analog.{Analog}
@@ -36,15 +34,14 @@ out_inside a Cas aim k h = h
 some_kept : Analog → (a : Analog) × AnalogKept a
 some_kept a =
     let l : Limits = a.block.settings.sp_limits in (
-      fresh_analog l a.block.settings.permitted 1 l.low a.fault_action,
-      record { block = fresh_kept l a.block.settings.permitted true false; value_inside = low_inside l; time = lit≤ tt; shows_request = refl },
+      fresh_analog l a.block.settings.permitted a.fault_time l.low a.fault_action,
+      record { block = fresh_kept l a.block.settings.permitted true false; value_inside = low_inside l; shows_request = refl },
     )
 
 kept_asked : (a : Analog) (x : Ask) → AnalogKept a → AnalogKept (analog_with a (after_ask a.block x))
 kept_asked a x k = record {
   block = block_asked a.block x k.block;
   value_inside = rw (standing a.block x).settings k.value_inside;
-  time = k.time;
   shows_request = (standing a.block x).hides ∙ k.shows_request;
 }
 
@@ -53,7 +50,6 @@ kept_rounded a c k = record {
   block = block_rounded a.block (analog_faulty a c.status.0) c _ false k.block
       (out_inside a (analog_mode a c) (analog_aim a c) k (aim_inside a.block c.value (analog_mode a c) k.block.sp_inside));
   value_inside = k.value_inside;
-  time = k.time;
   shows_request = refl;
 }
 
@@ -62,8 +58,8 @@ invited_whole : (asks : Bool) → brings_fault (cond asks 0xC4 0xC0) ≡ false
 invited_whole true = refl
 invited_whole false = refl
 
-no_fault : (a : Analog) (s : ℕ) → 1 ≤ a.fault_time → brings_fault s ≡ false → analog_faulty a s ≡ false
-no_fault a s t e = grind (arith, nat_tests)
+no_fault : (a : Analog) (s : ℕ) → brings_fault s ≡ false → analog_faulty a s ≡ false
+no_fault a s e = let least = a.fault_time.least in grind (arith, nat_tests)
 
 nearer : (m : Mode) → (analog_away (led m false) false < analog_away m false) ⊎ ((analog_away m false ≡ 0) × (analog_away (led m false) false ≡ 0))
 nearer OutOfService = inl (lit< tt)
@@ -84,7 +80,7 @@ falls : (a : Analog) (c : Signal) → AnalogKept a → a.block.target ≡ Cas �
 falls a c k t s e =
     let whole : brings_fault c.status.0 ≡ false = rw e (invited_whole (same_code (shown_status a.block) 0xC8)) in
     falls_at a.block.actual (analog_mode a c) a.block.hides_request k.shows_request
-    (invited_mode a.block (analog_faulty a c.status.0) c k.block t s (no_fault a c.status.0 k.time whole) e)
+    (invited_mode a.block (analog_faulty a c.status.0) c k.block t s (no_fault a c.status.0 whole) e)
 
 pub near : (m : Mode) (hides : Bool) → analog_away m hides ≤ 2
 near OutOfService hides = lit≤ tt
@@ -111,13 +107,7 @@ analog_facts = record {
   kept_asked = kept_asked;
   kept_rounded = kept_rounded;
   no_input = λ a k. k.block.no_input;
-  settings = λ a c k. refl;
-  round_leaves = λ a c k. untouched a.block (analog_faulty a c.status.0) c _ false;
-  out_of_service = λ a c k. next_os a.block 0xC0 (analog_faulty a c.status.0) c.status.0;
-  cas_on_target = λ a c k. next_cas_target a.block 0xC0 (analog_faulty a c.status.0) c.status.0;
-  into_cas = λ a c k. next_cas_asked a.block 0xC0 (analog_faulty a c.status.0) c.status.0;
-  lo_by_switch = λ a c k _ on. ap cause_of on;
-  keeps_sp = λ a c k _. keeps_sp a.block (analog_faulty a c.status.0) c _ false k.block;
+  round = λ a c k. round_owes a.block (analog_faulty a c.status.0) c _ false k.block;
   number_range = (lit≤ tt, lit≤ tt);
   near = near;
   there = there;

@@ -2,6 +2,7 @@
 pub mod Round
 pub mod Analog
 pub mod Pulse
+pub mod Thousand
 pub mod Making
 pub mod Worked
 pub mod Rounds

@@ -3,11 +3,10 @@
 --     PulseFrom su p          p is the pulse end of the setup su as made
 --     AnalogGood su           an analog end is made of su; PulseGood likewise
 --     AnalogFault su f        it is refused for f, the fault of the lowest number; PulseFault likewise
---     GoodTime z              z lies from 1 to 1,000, as a fault time or a travel
 --     fresh_analog l p time value action    an analog end as made; it takes an output
 --     fresh_pulse l p travel                a pulse end as made; it takes none, and hides its request
 --     end_settings l p out    the limits l for SP and for OUT, the permitted modes p, no input and no options
-use Rattle.std.specs.Prelude.{◌≡◌, ℕ, ◌≤◌, Bool, true, false, cond, ℤ, pos, ◌≤ℤ◌, is_some, Some, None, Option, ◌==◌}
+use Rattle.std.specs.Prelude.{◌≡◌, ℕ, Bool, true, false, cond, pos, is_some, Some, None, Option, ◌==◌}
 use Rattle.signal.specs.Limits.{ProperLimits}
 use Rattle.signal.specs.declared.kinds.Limits.{Limits}
 use Rattle.signal.specs.declared.kinds.Value.{Value}
@@ -17,15 +16,14 @@ use Rattle.block.specs.declared.fault.EndFault.TheVariants.{BadLimits, BadPermit
 use Rattle.block.specs.declared.kinds.Options.{Options}
 use Rattle.block.specs.declared.kinds.Permitted.{Permitted}
 use Rattle.block.specs.declared.kinds.Settings.{Settings}
+use Rattle.ends.specs.Thousand.{GoodTime}
 use Rattle.ends.specs.declared.analog.Analog.{Analog}
 use Rattle.ends.specs.declared.analog.AnalogSetup.{AnalogSetup}
 use Rattle.ends.specs.declared.analog.FaultAction.{FaultAction}
 use Rattle.ends.specs.declared.analog.FaultAction.TheVariants.{Hold, Value as SetValue}
 use Rattle.ends.specs.declared.pulse.Pulse.{Pulse}
 use Rattle.ends.specs.declared.pulse.PulseSetup.{PulseSetup}
-
-abbrev pub GoodTime : ℤ → Type 0
-GoodTime z = (pos 1 ≤ℤ z) × (z ≤ℤ pos 1000)
+use Rattle.ends.specs.declared.thousand.Thousand.{Thousand}
 
 abbrev pub action_of : ℕ → Option FaultAction
 action_of n = cond (n == 0) (Some Hold) (cond (n == 1) (Some SetValue) None)
@@ -35,10 +33,6 @@ GoodEndPermitted b = is_some (permitted_of b) ≡ true
 
 abbrev pub GoodAction : ℕ → Type 0
 GoodAction b = is_some (action_of b) ≡ true
-
-abbrev pub TimeTaken : ℤ → Option ℕ → Type 0
-TimeTaken z (Some n) = (pos n ≡ z) × GoodTime z × (1 ≤ n)
-TimeTaken z None = GoodTime z → ⊥
 
 -- limits with the fault value inside them
 abbrev pub GoodEndLimits : AnalogSetup → Type 0
@@ -68,13 +62,13 @@ abbrev pub no_options : Options
 no_options = record { fault_on_bad_input = false; track_pv = false; uncertain_usable = false }
 
 abbrev pub end_settings : Limits → Permitted → Bool → Settings
-end_settings l p out = record { sp_limits = l; out_limits = l; permitted = p; options = no_options; takes_input = false; takes_output = out }
+end_settings l p out = record { sp_limits = l; out_limits = l; permitted = p; options = no_options; takes_output = out }
 
-abbrev pub fresh_analog : Limits → Permitted → ℕ → Value → FaultAction → Analog
-fresh_analog l p time value action = record { block = fresh_block (end_settings l p true) false; fault_time = time; fault_value = value; fault_action = action; count = 0 }
+abbrev pub fresh_analog : Limits → Permitted → Thousand → Value → FaultAction → Analog
+fresh_analog l p time value action = record { block = fresh_block (end_settings l p true) None false; fault_time = time; fault_value = value; fault_action = action; count = 0 }
 
-abbrev pub fresh_pulse : Limits → Permitted → ℕ → Pulse
-fresh_pulse l p travel = record { block = fresh_block (end_settings l p false) true; travel = travel }
+abbrev pub fresh_pulse : Limits → Permitted → Thousand → Pulse
+fresh_pulse l p travel = record { block = fresh_block (end_settings l p false) None true; travel = travel }
 
 -- fresh, with one pair of limits, and every number and byte as given
 pub record AnalogFrom (su : AnalogSetup) (a : Analog) : Type 0 where
@@ -82,7 +76,7 @@ pub record AnalogFrom (su : AnalogSetup) (a : Analog) : Type 0 where
   pub low_end : a.block.settings.sp_limits.low.raw ≡ su.low
   pub high_end : a.block.settings.sp_limits.high.raw ≡ su.high
   pub permits : permitted_of su.permitted ≡ Some a.block.settings.permitted
-  pub time : pos a.fault_time ≡ su.fault_time
+  pub time : pos a.fault_time.number ≡ su.fault_time
   pub value : a.fault_value.raw ≡ su.fault_value
   pub action : action_of su.fault_action ≡ Some a.fault_action
 
@@ -91,4 +85,4 @@ pub record PulseFrom (su : PulseSetup) (p : Pulse) : Type 0 where
   pub low_end : p.block.settings.sp_limits.low.raw ≡ su.low
   pub high_end : p.block.settings.sp_limits.high.raw ≡ su.high
   pub permits : permitted_of su.permitted ≡ Some p.block.settings.permitted
-  pub travels : pos p.travel ≡ su.travel
+  pub travels : pos p.travel.number ≡ su.travel

@@ -5,7 +5,7 @@
 --     stepped from travel aim    the next position: a travel up or down if `aim` is at least a travel off, else it rests
 --     pulse_out p m aim          the position after a round that brings the mode m, with the setpoint `aim`
 --     pulse_hides p              a round hides the request unless the round before ended in Auto or Cas
-use Rattle.std.specs.Prelude.{ℕ, ◌≤◌, Bool, false, cond, not, pos, ◌+ℤ◌, ◌-ℤ◌, int_le}
+use Rattle.std.specs.Prelude.{ℕ, Bool, false, cond, not, pos, ◌+ℤ◌, ◌-ℤ◌, int_le}
 use Rattle.signal.specs.Value.{value_near}
 use Rattle.signal.specs.declared.kinds.Value.{Value}
 use Rattle.signal.specs.declared.mode.Mode.{Mode}
@@ -23,12 +23,12 @@ stepped from travel aim =
     (cond (int_le aim.raw (from.raw -ℤ pos travel)) (value_near (from.raw -ℤ pos travel)) from)
 
 abbrev pub pulse_out : Pulse → Mode → Value → Value
-pulse_out p OutOfService aim = p.block.out
-pulse_out p IMan aim = p.block.out
-pulse_out p Lo aim = p.block.out
-pulse_out p Man aim = p.block.out
-pulse_out p Auto aim = stepped p.block.out p.travel aim
-pulse_out p Cas aim = stepped p.block.out p.travel aim
+pulse_out p OutOfService aim = p.block.at.out
+pulse_out p IMan aim = p.block.at.out
+pulse_out p Lo aim = p.block.at.out
+pulse_out p Man aim = p.block.at.out
+pulse_out p Auto aim = stepped p.block.at.out p.travel.number aim
+pulse_out p Cas aim = stepped p.block.at.out p.travel.number aim
 
 abbrev pub pulse_hides : Pulse → Bool
 pulse_hides p = not (runs p.block.actual)
@@ -45,7 +45,6 @@ pulse_rounded p c = pulse_with p (pulse_after p c)
 
 pub record PulseKept (p : Pulse) : Type 0 where
   pub block : KeptBlock p.block
-  pub travels : 1 ≤ p.travel
 
 -- one round from Auto to Cas once the request is shown, one more to show it, and one more into Auto
 abbrev pub pulse_away : Mode → Bool → ℕ

@@ -1,6 +1,6 @@
 -- A pulse end shows all that an end of one block owes. Assumes nothing.
 use Rattle.std.specs.Prelude.{◌≡◌, ℕ, ◌<◌, ◌≤◌, Bool, true, false, not, ◌⊎◌, ℤ, pos, negsuc, ◌+ℤ◌, ◌-ℤ◌, ◌≤ℤ◌, int_le, int_lt, refl}
-use Rattle.std.proofs.Common.{ap, ◌∙◌, inl, inr, arith, lit<, lit≤}
+use Rattle.std.proofs.Common.{◌∙◌, inl, inr, arith, lit<, lit≤}
 use Rattle.std.proofs.lemmas.Int.{ints}
 use Rattle.std.proofs.lemmas.Bool.{cond_both, cond-false}
 use Rattle.signal.specs.Limits.{Inside}
@@ -10,11 +10,9 @@ use Rattle.signal.specs.declared.kinds.Value.{Value}
 use Rattle.signal.specs.declared.mode.Mode.{Mode}
 use Rattle.signal.specs.declared.mode.Mode.TheVariants.{OutOfService, IMan, Lo, Man, Auto, Cas}
 use Rattle.signal.specs.declared.status.Signal.{Signal}
-use Rattle.block.proofs.Next.{next_os, next_cas_asked, next_cas_target}
 use Rattle.block.specs.Alone.{AloneFacts}
-use Rattle.block.specs.Lines.{cause_of}
 use Rattle.block.specs.Modes.{runs}
-use Rattle.ends.specs.Rounds.{fresh_kept, block_asked, block_rounded, untouched, keeps_sp, aim_inside, led, invited_mode}
+use Rattle.ends.specs.Rounds.{fresh_kept, block_asked, block_rounded, round_owes, aim_inside, led, invited_mode}
 use Rattle.ends.specs.Making.{fresh_pulse}
 use Rattle.ends.specs.Pulse.{stepped, pulse_out, pulse_hides, pulse_rounded, PulseKept, pulse_away, pulse_own}
 use Rattle.ends.specs.Round.{end_mode, end_aim}
@@ -59,15 +57,14 @@ out_inside p OutOfService aim k h = k.block.out_inside
 out_inside p IMan aim k h = k.block.out_inside
 out_inside p Lo aim k h = k.block.out_inside
 out_inside p Man aim k h = k.block.out_inside
-out_inside p Auto aim k h = stepped_inside p.block.settings.sp_limits p.block.out aim p.travel k.block.out_inside h
-out_inside p Cas aim k h = stepped_inside p.block.settings.sp_limits p.block.out aim p.travel k.block.out_inside h
+out_inside p Auto aim k h = stepped_inside p.block.settings.sp_limits p.block.at.out aim p.travel.number k.block.out_inside h
+out_inside p Cas aim k h = stepped_inside p.block.settings.sp_limits p.block.at.out aim p.travel.number k.block.out_inside h
 
 kept_rounded : (p : Pulse) (c : Signal) → PulseKept p → PulseKept (pulse_rounded p c)
 kept_rounded p c k = record {
   block = block_rounded p.block false c _ (pulse_hides p) k.block
       (out_inside p (end_mode p.block false c) (end_aim p.block false c) k
       (aim_inside p.block c.value (end_mode p.block false c) k.block.sp_inside));
-  travels = k.travels;
 }
 
 nearer : (m : Mode) (hides : Bool)
@@ -105,8 +102,8 @@ there Cas hides e = refl
 some_kept : Pulse → (p : Pulse) × PulseKept p
 some_kept p =
     let l : Limits = p.block.settings.sp_limits in (
-      fresh_pulse l p.block.settings.permitted 1,
-      record { block = fresh_kept l p.block.settings.permitted false true; travels = lit≤ tt },
+      fresh_pulse l p.block.settings.permitted p.travel,
+      record { block = fresh_kept l p.block.settings.permitted false true },
     )
 
 pub pulse_facts : AloneFacts pulse_own
@@ -115,16 +112,10 @@ pulse_facts = record {
   put = λ p b. refl;
   over = λ p b d. refl;
   same = λ p. refl;
-  kept_asked = λ p x k. record { block = block_asked p.block x k.block; travels = k.travels };
+  kept_asked = λ p x k. record { block = block_asked p.block x k.block };
   kept_rounded = kept_rounded;
   no_input = λ p k. k.block.no_input;
-  settings = λ p c k. refl;
-  round_leaves = λ p c k. untouched p.block false c _ (pulse_hides p);
-  out_of_service = λ p c k. next_os p.block 0xC0 false c.status.0;
-  cas_on_target = λ p c k. next_cas_target p.block 0xC0 false c.status.0;
-  into_cas = λ p c k. next_cas_asked p.block 0xC0 false c.status.0;
-  lo_by_switch = λ p c k _ on. ap cause_of on;
-  keeps_sp = λ p c k _. keeps_sp p.block false c _ (pulse_hides p) k.block;
+  round = λ p c k. round_owes p.block false c _ (pulse_hides p) k.block;
   number_range = (lit≤ tt, lit≤ tt);
   near = near;
   there = there;

@@ -1,5 +1,5 @@
 -- What a call and a round leave true of an end's block, and the way to Cas where the end is invited. Assumes nothing.
-use Rattle.std.specs.Prelude.{◌≡◌, ℕ, Bool, true, false, cond, ◌&&◌, refl}
+use Rattle.std.specs.Prelude.{◌≡◌, ℕ, Bool, true, false, cond, ◌&&◌, is_some, Some, None, Option, refl}
 use Rattle.std.proofs.Common.{◌∙◌, ap}
 use Rattle.signal.specs.Limits.{pulled, Inside}
 use Rattle.signal.specs.Mode.{mode_shows}
@@ -11,13 +11,13 @@ use Rattle.signal.specs.declared.mode.LoCause.TheVariants.{Switch, Fault}
 use Rattle.signal.specs.declared.mode.Mode.{Mode}
 use Rattle.signal.specs.declared.mode.Mode.TheVariants.{OutOfService, IMan, Lo, Man, Auto, Cas}
 use Rattle.signal.specs.declared.status.Signal.{Signal}
-use Rattle.block.proofs.Asks.{standing, sp_cases, out_cases}
-use Rattle.block.proofs.Next.{next_free}
+use Rattle.block.specs.Asks.{standing, sp_cases, out_cases}
+use Rattle.block.proofs.Next.{next_os, next_cas_asked, next_cas_target, next_free}
+use Rattle.block.specs.Alone.{RoundOwes}
 use Rattle.block.proofs.Pulled.{pulled_same, pulled_inside}
 use Rattle.block.specs.Calls.{after_ask}
-use Rattle.block.specs.Lines.{usable, keeps_cas}
+use Rattle.block.specs.Lines.{cause_of, usable, keeps_cas}
 use Rattle.block.specs.Making.{zero_value, fresh_block}
-use Rattle.block.specs.Meaning.{Untouched}
 use Rattle.block.specs.Modes.{is_cas}
 use Rattle.block.specs.Shown.{shown_status}
 use Rattle.block.specs.declared.kinds.Ask.{Ask}
@@ -27,23 +27,27 @@ use Rattle.ends.specs.Making.{end_settings}
 use Rattle.ends.specs.Round.{aimed_sp, left_sp, end_mode, rounded_block, KeptBlock}
 
 -- a call
-kept_since : (b d : Block) → d.settings ≡ b.settings → Inside b.settings.sp_limits d.sp → Inside b.settings.sp_limits d.out
+none_again : (o p : Option Signal) → is_some o ≡ is_some p → p ≡ None → o ≡ None
+none_again None p i e = refl
+none_again (Some x) p i e = let same : true ≡ false = i ∙ ap is_some e in cc
+
+kept_since : (b d : Block) → d.settings ≡ b.settings → is_some d.input ≡ is_some b.input → Inside b.settings.sp_limits d.at.sp → Inside b.settings.sp_limits d.at.out
     → KeptBlock b → KeptBlock d
-kept_since b d e sp out k = record {
+kept_since b d e i sp out k = record {
   sp_inside = rw e sp;
   out_inside = rw e out;
   one_pair = rw e k.one_pair;
-  no_input = rw e k.no_input;
+  no_input = none_again d.input b.input i k.no_input;
 }
 
 pub block_asked : (b : Block) (a : Ask) → KeptBlock b → KeptBlock (after_ask b a)
 block_asked b a k =
     let l : Limits = b.settings.sp_limits in
     let pulls : (v : Value) → Inside l (pulled b.settings.out_limits v) = λ v. rw k.one_pair (pulled_inside b.settings.out_limits v) in
-    kept_since b (after_ask b a) (standing b a).settings (sp_cases b (Inside l) a k.sp_inside (pulled_inside l)) (out_cases b (Inside l) a k.out_inside pulls) k
+    kept_since b (after_ask b a) (standing b a).settings (standing b a).has_input (sp_cases b (Inside l) a k.sp_inside (pulled_inside l)) (out_cases b (Inside l) a k.out_inside pulls) k
 
 -- a round
-pub aim_inside : (b : Block) (v : Value) (m : Mode) → Inside b.settings.sp_limits b.sp → Inside b.settings.sp_limits (aimed_sp b m v)
+pub aim_inside : (b : Block) (v : Value) (m : Mode) → Inside b.settings.sp_limits b.at.sp → Inside b.settings.sp_limits (aimed_sp b m v)
 aim_inside b v OutOfService h = h
 aim_inside b v IMan h = h
 aim_inside b v Lo h = h
@@ -68,18 +72,26 @@ module _ (b : Block) (fault : Bool) (c : Signal) (out : Value) (hides : Bool) wh
     no_input = k.no_input;
   }
 
-  pub untouched : Untouched b (rounded_block b fault c out hides)
-  untouched = record { target = refl; switch = refl; input = refl }
-
   cas_sp : (m : Mode) → m ≡ Cas → left_sp m (aimed_sp b m c.value) out ≡ pulled b.settings.sp_limits c.value
   cas_sp m e = rw e refl
 
   -- coming into Cas on a value equal to the setpoint
-  pub keeps_sp : KeptBlock b → end_mode b fault c ≡ Cas → c.value ≡ b.sp → (rounded_block b fault c out hides).sp ≡ b.sp
-  keeps_sp k e v = cas_sp (end_mode b fault c) e ∙ (ap (pulled b.settings.sp_limits) v ∙ pulled_same b.settings.sp_limits b.sp k.sp_inside)
+  keeps_sp : KeptBlock b → end_mode b fault c ≡ Cas → c.value ≡ b.at.sp → (rounded_block b fault c out hides).at.sp ≡ b.at.sp
+  keeps_sp k e v = cas_sp (end_mode b fault c) e ∙ (ap (pulled b.settings.sp_limits) v ∙ pulled_same b.settings.sp_limits b.at.sp k.sp_inside)
+
+  pub round_owes : KeptBlock b → RoundOwes b c (rounded_block b fault c out hides)
+  round_owes k = record {
+    settings = refl;
+    leaves = record { target = refl; switch = refl; input = refl };
+    out_of_service = next_os b 0xC0 fault c.status.0;
+    cas_on_target = next_cas_target b 0xC0 fault c.status.0;
+    into_cas = next_cas_asked b 0xC0 fault c.status.0;
+    lo_by_switch = λ _ on. ap cause_of on;
+    keeps_sp = λ _. keeps_sp k;
+  }
 
 -- an end as made is kept
-pub fresh_kept : (l : Limits) (p : Permitted) (out hides : Bool) → KeptBlock (fresh_block (end_settings l p out) hides)
+pub fresh_kept : (l : Limits) (p : Permitted) (out hides : Bool) → KeptBlock (fresh_block (end_settings l p out) None hides)
 fresh_kept l p out hides = record { sp_inside = pulled_inside l zero_value; out_inside = pulled_inside l zero_value; one_pair = refl; no_input = refl }
 
 -- where a round leads an end that is invited, by its mode and by whether it hides its request
@@ -121,7 +133,7 @@ led_at : (m t : Mode) (hides : Bool) (by : LoCause) (above : ℕ) → t ≡ Cas 
     → line_on m (shows_at m hides t by) above ≡ led m hides
 led_at m t hides by above e f = rw (f, e) (led_cas m hides by)
 
-no_input_usable : (b : Block) → b.settings.takes_input ≡ false → usable b ≡ true
+no_input_usable : (b : Block) → b.input ≡ None → usable b ≡ true
 no_input_usable b h = simp h
 
 pub invited_mode : (b : Block) (fault : Bool) (c : Signal) → KeptBlock b → b.target ≡ Cas → b.switch ≡ false → fault ≡ false

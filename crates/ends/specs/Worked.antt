@@ -40,9 +40,9 @@ pub record Worked : Type 0 where
   pub analog_settles_in_2 : (a : Analog) → (alone_model analog_own).settling a ≡ 2
   pub pulse_settles_in_3 : (p : Pulse) → (alone_model pulse_own).settling p ≡ 3
   -- a fault time of 3: still in Cas after one and two rounds on E0, in LO and showing DC after three
-  pub fault_time_3 : (a : Analog) (u v w : Value) → analog_own.kept a → InCas a → a.fault_time ≡ 3 → a.count ≡ 0 → ThirdFaults a u v w
+  pub fault_time_3 : (a : Analog) (u v w : Value) → analog_own.kept a → InCas a → a.fault_time.number ≡ 3 → a.count ≡ 0 → ThirdFaults a u v w
   -- a travel of 100: a setpoint 99 above the position lets it rest, one 100 above raises it by 100
-  pub rests_at_99 : (p : Pulse) (c : Signal) → pulse_own.kept p → InAuto p → p.travel ≡ 100
-      → p.block.sp.raw ≡ p.block.out.raw +ℤ pos 99 → (pulse_own.rounded p c).block.out ≡ p.block.out
-  pub raises_at_100 : (p : Pulse) (c : Signal) → pulse_own.kept p → InAuto p → p.travel ≡ 100
-      → p.block.sp.raw ≡ p.block.out.raw +ℤ pos 100 → (pulse_own.rounded p c).block.out.raw ≡ p.block.out.raw +ℤ pos 100
+  pub rests_at_99 : (p : Pulse) (c : Signal) → pulse_own.kept p → InAuto p → p.travel.number ≡ 100
+      → p.block.at.sp.raw ≡ p.block.at.out.raw +ℤ pos 99 → (pulse_own.rounded p c).block.at.out ≡ p.block.at.out
+  pub raises_at_100 : (p : Pulse) (c : Signal) → pulse_own.kept p → InAuto p → p.travel.number ≡ 100
+      → p.block.at.sp.raw ≡ p.block.at.out.raw +ℤ pos 100 → (pulse_own.rounded p c).block.at.out.raw ≡ p.block.at.out.raw +ℤ pos 100

@@ -1,24 +1,28 @@
 // The analog end: OUT follows the setpoint, and goes to the fault state after so many faulty rounds.
-ghost use Rattle.std.specs.Prelude.{◌≡◌, ◌≤◌, IfOk, MatchResult};
-ghost use Rattle.block.specs.Alone.{alone_model};
-ghost use Rattle.block.specs.Making.{LimitsAround};
-ghost use Rattle.block.specs.declared.fault.EndFault.TheVariants.{BadLimits};
-ghost use Rattle.signal.specs.Limits.{Inside};
-ghost use Rattle.ends.specs.Analog.{brings_fault, analog_count, analog_out, AnalogKept, analog_own};
-ghost use Rattle.ends.specs.Making.{GoodEndLimits, TimeTaken, action_of, AnalogGood, AnalogFault, fresh_analog, AnalogFrom};
-ghost use Rattle.block.proofs.OneBlock.{alone_meaning};
+ghost use Rattle.std.specs.Prelude.{◌≡◌, Some, None, IfOk, MatchResult};
+ghost use Rattle.block.specs.Making.{BoundedFrom};
+ghost use Rattle.block.specs.declared.fault.EndFault.TheVariants.{BadAction};
+ghost use Rattle.ends.specs.Analog.{brings_fault, analog_count, analog_out, analog_own};
+ghost use Rattle.ends.specs.Making.{action_of, GoodEndLimits, AnalogGood, AnalogFault, AnalogFrom};
 ghost use Rattle.ends.specs.AnalogFacts.{analog_facts};
 
-use crate::making::{end_settings, up_to_thousand};
-use crate::round::{aimed_sp, left_sp};
-use block::{Ask, Block, EndFault, LowerEnd, Permitted, Reading, Refusal, limits_around};
-use signal::{Limits, Mode, Quality, Signal, Status, Value};
+use crate::making::end_settings;
+use crate::round::EndRound;
+use crate::thousand::Thousand;
+use block::{Ask, Block, Bounded, EndFault, OneBlock, Permitted, Refusal};
+use signal::{LimitsFault, Mode, Quality, Signal, Status, Value};
 
 // What LO by fault does to OUT.
 #[derive(Clone, Copy)]
 pub enum FaultAction {
     Hold = 0,
     Value = 1,
+}
+
+// Why a byte is no fault action. What is made of it has the number.
+#[derive(Clone, Copy, Debug)]
+pub enum ActionFault {
+    BadAction,
 }
 
 // The numbers and bytes of an analog end as they come.
@@ -37,7 +41,8 @@ pub struct AnalogSetup {
 #[derive(Drop)]
 pub struct Analog {
     block: Block,
-    fault_time: u16,
+    fault_time: Thousand,
+    // kept with either action: every number is kept as given
     fault_value: Value,
     fault_action: FaultAction,
     // faulty rounds in a row, up to the fault time
@@ -50,29 +55,36 @@ fn brings_fault(cas_in: Status) -> bool
     cas_in.is(Status::INITIATE_FAULT_STATE) || cas_in.quality() == Quality::Bad
 }
 
-impl FaultAction {
-    fn from_byte(byte: u8) -> Option<FaultAction>
-        ensures { result ≡ action_of byte }
-    {
+impl TryFrom<u8> for FaultAction {
+    type Error = ActionFault;
+
+    ghost try_from_gives = { λ b r. MatchResult r (λ x. action_of b ≡ Some x) (λ _. action_of b ≡ None) };
+
+    fn try_from(byte: u8) -> Result<FaultAction, ActionFault> {
         match byte {
-            0 => Some(FaultAction::Hold),
-            1 => Some(FaultAction::Value),
-            _ => None,
+            0 => Ok(FaultAction::Hold),
+            1 => Ok(FaultAction::Value),
+            _ => Err(ActionFault::BadAction),
+        }
+    }
+}
+
+impl From<ActionFault> for EndFault {
+    ghost from_gives = { λ f r. r ≡ BadAction };
+
+    fn from(f: ActionFault) -> EndFault {
+        match f {
+            ActionFault::BadAction => EndFault::BadAction,
         }
     }
 }
 
 impl AnalogSetup {
-    fn limits(&self) -> Result<(Limits, Value), EndFault>
-        ensures { MatchResult result (LimitsAround self.now.low self.now.high self.now.fault_value) (λ f. (f ≡ BadLimits) × (GoodEndLimits self.now → ⊥)) }
+    // A function of its own: with the three numbers read in `new`, the proof there does not close.
+    fn limits(&self) -> Result<Bounded, LimitsFault>
+        ensures { MatchResult result (BoundedFrom self.now.low self.now.high self.now.fault_value) (λ _. GoodEndLimits self.now → ⊥) }
     {
-        Ok(limits_around(self.low, self.high, self.fault_value)?)
-    }
-
-    fn time(&self) -> Option<u16>
-        ensures { TimeTaken self.now.fault_time result }
-    {
-        up_to_thousand(self.fault_time)
+        Bounded::new(self.low, self.high, self.fault_value)
     }
 }
 
@@ -81,37 +93,17 @@ impl Analog {
         ensures from { MatchResult result (λ a. AnalogGood setup × AnalogFrom setup a) (AnalogFault setup) }
         ensures kept { IfOk result analog_own.kept }
     {
-        let (limits, fault_value) = setup.limits()?;
-        let Some(permitted) = Permitted::from_byte(setup.permitted) else {
-            return Err(EndFault::BadPermitted);
-        };
-        let Some(fault_action) = FaultAction::from_byte(setup.fault_action) else {
-            return Err(EndFault::BadAction);
-        };
-        let Some(fault_time) = setup.time() else {
-            return Err(EndFault::BadTime);
-        };
-        Ok(Analog::assembled(limits, permitted, fault_time, fault_value, fault_action))
-    }
-
-    fn assembled(
-        limits: Limits,
-        permitted: Permitted,
-        fault_time: u16,
-        fault_value: Value,
-        fault_action: FaultAction,
-    ) -> Analog
-        requires { (1 ≤ fault_time) × (Inside limits fault_value) }
-        ensures whole { result ≡ fresh_analog limits permitted fault_time fault_value fault_action }
-        ensures kept { AnalogKept result }
-    {
-        Analog {
-            block: Block::fresh(end_settings(limits, permitted, true), false),
+        let bounded = setup.limits()?;
+        let permitted = Permitted::try_from(setup.permitted)?;
+        let fault_action = FaultAction::try_from(setup.fault_action)?;
+        let fault_time = Thousand::try_from(setup.fault_time)?;
+        Ok(Analog {
+            block: Block::fresh(end_settings(bounded.limits, permitted, true), None, false),
             fault_time,
-            fault_value,
+            fault_value: bounded.value,
             fault_action,
             count: 0,
-        }
+        })
     }
 
     // It counts with target Cas alone, in whatever mode.
@@ -121,59 +113,49 @@ impl Analog {
         if self.block.target != Mode::Cas || !brings_fault(cas_in) {
             return 0;
         }
-        if self.count < self.fault_time {
+        let most = self.fault_time.get();
+        if self.count < most {
             self.count + 1
         } else {
-            self.fault_time
+            most
         }
     }
 
-    fn next_out(&self, mode: Mode, aim: Value) -> Value
-        ensures { result ≡ analog_out self.now mode aim }
+    fn next_out(&self, round: EndRound) -> Value
+        ensures { result ≡ analog_out self.now round.mode round.aim }
     {
-        match (mode, self.fault_action) {
-            (Mode::Auto | Mode::Cas, _) => aim,
+        match (round.mode, self.fault_action) {
+            (Mode::Auto | Mode::Cas, _) => round.aim,
             (Mode::Lo, FaultAction::Value) if !self.block.switch => self.fault_value,
-            _ => self.block.out,
+            _ => self.block.at.out,
         }
     }
 }
 
-impl LowerEnd for Analog {
-    ghost model = { alone_model analog_own };
+impl OneBlock for Analog {
+    ghost own = { analog_own };
 
-    ghost meaning = { alone_meaning analog_own analog_facts };
+    ghost facts = { analog_facts };
 
-    fn blocks(&self) -> u8 {
-        1
-    }
-
-    fn settling(&self) -> u16 {
+    fn settling_number(&self) -> u16 {
         2
     }
 
-    fn shown(&self) -> Signal {
-        self.block.shown()
+    fn block(&self) -> &Block {
+        &self.block
     }
 
-    fn read(&self, number: u8) -> Result<Reading, Refusal> {
-        self.block.read_alone(number)
-    }
-
-    fn ask(&mut self, number: u8, ask: Ask) -> Result<(), Refusal> {
-        self.block.ask_alone(number, ask)
+    fn ask_block(&mut self, ask: Ask) -> Result<(), Refusal> {
+        self.block.ask(ask)
     }
 
     // The count comes before the mode lines, so that a fault time of 1 gives LO at once.
-    fn round(&mut self, cas_in: Signal) {
+    fn run(&mut self, cas_in: Signal) {
         let count = self.counted(cas_in.status);
-        let fault = count == self.fault_time;
-        let mode = self.block.next_mode(Status::LINKED, fault, cas_in.status);
-        let aim = aimed_sp(&self.block, mode, cas_in.value);
-        let out = self.next_out(mode, aim);
-        let pv = self.block.pv;
+        let fault = count == self.fault_time.get();
+        let round = EndRound::new(&self.block, fault, cas_in);
+        let out = self.next_out(round);
         self.count = count;
-        self.block
-            .move_to(mode, left_sp(mode, aim, out), pv, out, false);
+        round.leave(&mut self.block, out, false);
     }
 }

@@ -1,22 +1,12 @@
-// The parts of making that both kinds of end share: numbers as they come, each taken or not.
+// The part of making that every kind of end shares.
 ghost use Rattle.std.specs.Prelude.{◌≡◌};
-ghost use Rattle.ends.specs.Making.{TimeTaken, end_settings};
+ghost use Rattle.ends.specs.Making.{end_settings};
 
 use block::{Options, Permitted, Settings};
 use signal::Limits;
 
-// A fault time in rounds, or a travel in thousandths of a percent of span.
-pub(crate) fn up_to_thousand(raw: i32) -> Option<u16>
-    ensures { TimeTaken raw result }
-{
-    match raw {
-        1..=1_000 => Some(raw as u16),
-        _ => None,
-    }
-}
-
 // One pair of limits serves SP and OUT.
-pub(crate) fn end_settings(limits: Limits, permitted: Permitted, takes_output: bool) -> Settings
+pub fn end_settings(limits: Limits, permitted: Permitted, takes_output: bool) -> Settings
     ensures { result ≡ end_settings limits permitted takes_output }
 {
     Settings {
@@ -24,7 +14,6 @@ pub(crate) fn end_settings(limits: Limits, permitted: Permitted, takes_output: b
         out_limits: limits,
         permitted,
         options: Options::NONE,
-        takes_input: false,
         takes_output,
     }
 }

@@ -1,17 +1,16 @@
 // The pulse end: its position, shown as OUT, goes towards the setpoint by one travel a round.
-ghost use Rattle.std.specs.Prelude.{◌≡◌, ◌≤◌, pos, ◌+ℤ◌, ◌-ℤ◌, IfOk, MatchResult, int_le};
-ghost use Rattle.block.specs.Alone.{alone_model};
-ghost use Rattle.block.specs.declared.fault.EndFault.TheVariants.{BadLimits};
-ghost use Rattle.signal.specs.Limits.{ProperLimits};
-ghost use Rattle.ends.specs.Making.{TimeTaken, PulseGood, PulseFault, fresh_pulse, PulseFrom};
-ghost use Rattle.ends.specs.Pulse.{stepped, pulse_out, PulseKept, pulse_own};
-ghost use Rattle.block.proofs.OneBlock.{alone_meaning};
+ghost use Rattle.std.specs.Prelude.{◌≡◌, ◌≤◌, ◌+ℤ◌, IfOk, MatchResult};
+ghost use Rattle.std.specs.Int.Signed.{mag};
+ghost use Rattle.block.specs.Modes.{runs};
+ghost use Rattle.ends.specs.Making.{PulseGood, PulseFault, PulseFrom};
+ghost use Rattle.ends.specs.Pulse.{stepped, pulse_out, pulse_own};
 ghost use Rattle.ends.specs.PulseFacts.{pulse_facts};
 
-use crate::making::{end_settings, up_to_thousand};
-use crate::round::{aimed_sp, left_sp, runs};
-use block::{Ask, Block, EndFault, LowerEnd, Permitted, Reading, Refusal};
-use signal::{Limits, Mode, Signal, Status, Value};
+use crate::making::end_settings;
+use crate::round::EndRound;
+use crate::thousand::Thousand;
+use block::{Ask, Block, EndFault, OneBlock, Permitted, Refusal};
+use signal::{Limits, Mode, Signal, Value};
 
 // The numbers and bytes of a pulse end as they come.
 #[derive(Clone, Copy)]
@@ -26,59 +25,35 @@ pub struct PulseSetup {
 #[derive(Drop)]
 pub struct Pulse {
     block: Block,
-    travel: u16,
+    travel: Thousand,
 }
 
-// The number a travel above a position, which may lie out of range.
-fn above(from: Value, travel: u16) -> i64
-    ensures { result ≡ from.raw +ℤ pos travel }
+fn runs(mode: Mode) -> bool
+    ensures { result ≡ runs mode }
 {
-    from.raw() as i64 + travel as i64
+    matches!(mode, Mode::Auto | Mode::Cas)
 }
 
-fn below(from: Value, travel: u16) -> i64
-    ensures { result ≡ from.raw -ℤ pos travel }
+// The number so far off a position, up or down; it may lie out of range.
+fn off(from: Value, by: i32) -> i32
+    requires { mag by ≤ 1000 }
+    ensures { result ≡ from.raw +ℤ by }
 {
-    from.raw() as i64 - travel as i64
+    from.raw() + by
 }
 
-fn reaches(aim: Value, up: i64) -> bool
-    ensures { result ≡ int_le up aim.raw }
+fn stepped(from: Value, travel: Thousand, aim: Value) -> Value
+    ensures { result ≡ stepped from travel.number aim }
 {
-    up <= aim.raw() as i64
-}
-
-fn falls_to(aim: Value, down: i64) -> bool
-    ensures { result ≡ int_le aim.raw down }
-{
-    aim.raw() as i64 <= down
-}
-
-fn stepped(from: Value, travel: u16, aim: Value) -> Value
-    ensures { result ≡ stepped from travel aim }
-{
-    let up = above(from, travel);
-    let down = below(from, travel);
-    if reaches(aim, up) {
+    let travel = i32::from(travel.get());
+    let up = off(from, travel);
+    let down = off(from, -travel);
+    if up <= aim.raw() {
         Value::pulled_in(up)
-    } else if falls_to(aim, down) {
+    } else if aim.raw() <= down {
         Value::pulled_in(down)
     } else {
         from
-    }
-}
-
-impl PulseSetup {
-    fn limits(&self) -> Result<Limits, EndFault>
-        ensures { MatchResult result (λ l. ProperLimits self.now.low self.now.high × (l.low.raw ≡ self.now.low) × (l.high.raw ≡ self.now.high)) (λ f. (f ≡ BadLimits) × (ProperLimits self.now.low self.now.high → ⊥)) }
-    {
-        Ok(Limits::new(self.low, self.high)?)
-    }
-
-    fn time(&self) -> Option<u16>
-        ensures { TimeTaken self.now.travel result }
-    {
-        up_to_thousand(self.travel)
     }
 }
 
@@ -87,70 +62,47 @@ impl Pulse {
         ensures from { MatchResult result (λ p. PulseGood setup × PulseFrom setup p) (PulseFault setup) }
         ensures kept { IfOk result pulse_own.kept }
     {
-        let limits = setup.limits()?;
-        let Some(permitted) = Permitted::from_byte(setup.permitted) else {
-            return Err(EndFault::BadPermitted);
-        };
-        let Some(travel) = setup.time() else {
-            return Err(EndFault::BadTime);
-        };
-        Ok(Pulse::assembled(limits, permitted, travel))
-    }
-
-    fn assembled(limits: Limits, permitted: Permitted, travel: u16) -> Pulse
-        requires { 1 ≤ travel }
-        ensures whole { result ≡ fresh_pulse limits permitted travel }
-        ensures kept { PulseKept result }
-    {
-        Pulse {
-            block: Block::fresh(end_settings(limits, permitted, false), true),
+        let limits = Limits::new(setup.low, setup.high)?;
+        let permitted = Permitted::try_from(setup.permitted)?;
+        let travel = Thousand::try_from(setup.travel)?;
+        Ok(Pulse {
+            block: Block::fresh(end_settings(limits, permitted, false), None, true),
             travel,
-        }
+        })
     }
 
-    fn next_out(&self, mode: Mode, aim: Value) -> Value
-        ensures { result ≡ pulse_out self.now mode aim }
+    fn next_out(&self, round: EndRound) -> Value
+        ensures { result ≡ pulse_out self.now round.mode round.aim }
     {
-        match mode {
-            Mode::Auto | Mode::Cas => stepped(self.block.out, self.travel, aim),
-            _ => self.block.out,
+        match round.mode {
+            Mode::Auto | Mode::Cas => stepped(self.block.at.out, self.travel, round.aim),
+            _ => self.block.at.out,
         }
     }
 }
 
-impl LowerEnd for Pulse {
-    ghost model = { alone_model pulse_own };
+impl OneBlock for Pulse {
+    ghost own = { pulse_own };
 
-    ghost meaning = { alone_meaning pulse_own pulse_facts };
+    ghost facts = { pulse_facts };
 
-    fn blocks(&self) -> u8 {
-        1
-    }
-
-    fn settling(&self) -> u16 {
+    fn settling_number(&self) -> u16 {
         3
     }
 
-    fn shown(&self) -> Signal {
-        self.block.shown()
+    fn block(&self) -> &Block {
+        &self.block
     }
 
-    fn read(&self, number: u8) -> Result<Reading, Refusal> {
-        self.block.read_alone(number)
-    }
-
-    fn ask(&mut self, number: u8, ask: Ask) -> Result<(), Refusal> {
-        self.block.ask_alone(number, ask)
+    fn ask_block(&mut self, ask: Ask) -> Result<(), Refusal> {
+        self.block.ask(ask)
     }
 
     // It asks from above only after a second round in Auto or Cas.
-    fn round(&mut self, cas_in: Signal) {
+    fn run(&mut self, cas_in: Signal) {
         let hides = !runs(self.block.actual);
-        let mode = self.block.next_mode(Status::LINKED, false, cas_in.status);
-        let aim = aimed_sp(&self.block, mode, cas_in.value);
-        let out = self.next_out(mode, aim);
-        let pv = self.block.pv;
-        self.block
-            .move_to(mode, left_sp(mode, aim, out), pv, out, hides);
+        let round = EndRound::new(&self.block, false, cas_in);
+        let out = self.next_out(round);
+        round.leave(&mut self.block, out, hides);
     }
 }

@@ -17,10 +17,10 @@ open_or_shut b aim =
     cond (int_lt b.settings.sp_limits.low.raw aim.raw) b.settings.sp_limits.high b.settings.sp_limits.low
 
 abbrev pub on_off_out : Block → Mode → Value → Value
-on_off_out b OutOfService aim = b.out
-on_off_out b IMan aim = b.out
-on_off_out b Lo aim = b.out
-on_off_out b Man aim = b.out
+on_off_out b OutOfService aim = b.at.out
+on_off_out b IMan aim = b.at.out
+on_off_out b Lo aim = b.at.out
+on_off_out b Man aim = b.at.out
 on_off_out b Auto aim = open_or_shut b aim
 on_off_out b Cas aim = open_or_shut b aim
 

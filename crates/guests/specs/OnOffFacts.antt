@@ -1,6 +1,6 @@
 -- An end that is open or shut shows all that an end of one block owes. Assumes nothing.
-use Rattle.std.proofs.Common.{ap, ◌∙◌, arith, lit≤}
-use Rattle.std.specs.Prelude.{true, false, int_lt, refl}
+use Rattle.std.proofs.Common.{◌∙◌, arith, lit≤}
+use Rattle.std.specs.Prelude.{true, false, int_lt, None, refl}
 use Rattle.std.proofs.lemmas.Int.{ints}
 use Rattle.std.proofs.lemmas.Bool.{cond_both}
 use Rattle.signal.specs.Limits.{Inside}
@@ -8,14 +8,12 @@ use Rattle.signal.specs.declared.kinds.Limits.{Limits}
 use Rattle.signal.specs.declared.kinds.Value.{Value}
 use Rattle.signal.specs.declared.mode.Mode.{Mode}
 use Rattle.signal.specs.declared.mode.Mode.TheVariants.{OutOfService, IMan, Lo, Man, Auto, Cas}
-use Rattle.block.proofs.Asks.{standing}
-use Rattle.block.proofs.Next.{next_os, next_cas_asked, next_cas_target}
+use Rattle.block.specs.Asks.{standing}
 use Rattle.block.specs.Alone.{AloneFacts}
-use Rattle.block.specs.Lines.{cause_of}
 use Rattle.block.specs.Making.{fresh_block}
 use Rattle.block.specs.declared.kinds.Block.{Block}
 use Rattle.ends.specs.AnalogFacts.{near, there, falls_at}
-use Rattle.ends.specs.Rounds.{fresh_kept, block_asked, block_rounded, untouched, keeps_sp, invited_mode}
+use Rattle.ends.specs.Rounds.{fresh_kept, block_asked, block_rounded, round_owes, invited_mode}
 use Rattle.ends.specs.Making.{end_settings}
 use Rattle.ends.specs.Round.{KeptBlock, end_mode}
 use Rattle.guests.specs.OnOff.{open_or_shut, on_off_out, on_off_own, OnOffKept}
@@ -38,7 +36,7 @@ out_inside b Cas aim k = either_inside b aim
 some_kept : OnOff → (s : OnOff) × OnOffKept s
 some_kept s =
     let l : Limits = s.block.settings.sp_limits in (
-      record { block = fresh_block (end_settings l s.block.settings.permitted true) false },
+      record { block = fresh_block (end_settings l s.block.settings.permitted true) None false },
       record { block = fresh_kept l s.block.settings.permitted true false; shows_request = refl },
     )
 
@@ -51,13 +49,7 @@ on_off_facts = record {
   kept_asked = λ s a k. record { block = block_asked s.block a k.block; shows_request = (standing s.block a).hides ∙ k.shows_request };
   kept_rounded = λ s c k. record { block = block_rounded s.block false c _ false k.block (out_inside s.block (end_mode s.block false c) _ k.block); shows_request = refl };
   no_input = λ s k. k.block.no_input;
-  settings = λ s c k. refl;
-  round_leaves = λ s c k. untouched s.block false c _ false;
-  out_of_service = λ s c k. next_os s.block 0xC0 false c.status.0;
-  cas_on_target = λ s c k. next_cas_target s.block 0xC0 false c.status.0;
-  into_cas = λ s c k. next_cas_asked s.block 0xC0 false c.status.0;
-  lo_by_switch = λ s c k _ on. ap cause_of on;
-  keeps_sp = λ s c k _. keeps_sp s.block false c _ false k.block;
+  round = λ s c k. round_owes s.block false c _ false k.block;
   number_range = (lit≤ tt, lit≤ tt);
   near = near;
   there = there;

@@ -1,15 +1,13 @@
 // A third end: a valve that is either open or shut.
 ghost use Rattle.std.specs.Prelude.{◌≡◌, true, false};
-ghost use Rattle.block.specs.Alone.{alone_model};
 ghost use Rattle.block.specs.Making.{fresh_block};
 ghost use Rattle.ends.specs.Making.{end_settings};
-ghost use Rattle.ends.specs.Round.{aimed_sp, left_sp};
 ghost use Rattle.guests.specs.OnOff.{on_off_out, OnOffKept, on_off_own};
-ghost use Rattle.block.proofs.OneBlock.{alone_meaning};
 ghost use Rattle.guests.specs.OnOffFacts.{on_off_facts};
 
-use block::{Ask, Block, LowerEnd, Options, Permitted, Reading, Refusal, Settings};
-use signal::{Limits, Mode, Signal, Status, Value};
+use block::{Ask, Block, OneBlock, Permitted, Refusal};
+use ends::{EndRound, end_settings};
+use signal::{Limits, Mode, Signal, Value};
 
 #[derive(Drop)]
 pub struct OnOff {
@@ -19,83 +17,46 @@ pub struct OnOff {
 impl OnOff {
     pub fn new(limits: Limits, permitted: Permitted) -> OnOff
         ensures kept { OnOffKept result }
-        ensures fresh { result.block ≡ fresh_block (end_settings limits permitted true) false }
+        ensures fresh { result.block ≡ fresh_block (end_settings limits permitted true) None false }
     {
-        let settings = Settings {
-            sp_limits: limits,
-            out_limits: limits,
-            permitted,
-            options: Options::NONE,
-            takes_input: false,
-            takes_output: true,
-        };
         OnOff {
-            block: Block::fresh(settings, false),
-        }
-    }
-
-    fn aim(&self, mode: Mode, from_above: Value) -> Value
-        ensures { result ≡ aimed_sp self.now.block mode from_above }
-    {
-        match mode {
-            Mode::Cas => self.block.settings.sp_limits.pull(from_above),
-            _ => self.block.sp,
+            block: Block::fresh(end_settings(limits, permitted, true), None, false),
         }
     }
 
     // Open where the setpoint is above the low limit, else shut.
-    fn next_out(&self, mode: Mode, aim: Value) -> Value
-        ensures { result ≡ on_off_out self.now.block mode aim }
+    fn next_out(&self, round: EndRound) -> Value
+        ensures { result ≡ on_off_out self.now.block round.mode round.aim }
     {
         let limits = self.block.settings.sp_limits;
-        match mode {
-            Mode::Auto | Mode::Cas if limits.low().raw() < aim.raw() => limits.high(),
+        match round.mode {
+            Mode::Auto | Mode::Cas if limits.low() < round.aim => limits.high(),
             Mode::Auto | Mode::Cas => limits.low(),
-            _ => self.block.out,
+            _ => self.block.at.out,
         }
     }
 }
 
-fn left_sp(mode: Mode, aim: Value, out: Value) -> Value
-    ensures { result ≡ left_sp mode aim out }
-{
-    match mode {
-        Mode::Man | Mode::Lo => out,
-        _ => aim,
-    }
-}
+impl OneBlock for OnOff {
+    ghost own = { on_off_own };
 
-impl LowerEnd for OnOff {
-    ghost model = { alone_model on_off_own };
+    ghost facts = { on_off_facts };
 
-    ghost meaning = { alone_meaning on_off_own on_off_facts };
-
-    fn blocks(&self) -> u8 {
-        1
-    }
-
-    fn settling(&self) -> u16 {
+    fn settling_number(&self) -> u16 {
         2
     }
 
-    fn shown(&self) -> Signal {
-        self.block.shown()
+    fn block(&self) -> &Block {
+        &self.block
     }
 
-    fn read(&self, number: u8) -> Result<Reading, Refusal> {
-        self.block.read_alone(number)
+    fn ask_block(&mut self, ask: Ask) -> Result<(), Refusal> {
+        self.block.ask(ask)
     }
 
-    fn ask(&mut self, number: u8, ask: Ask) -> Result<(), Refusal> {
-        self.block.ask_alone(number, ask)
-    }
-
-    fn round(&mut self, cas_in: Signal) {
-        let mode = self.block.next_mode(Status::LINKED, false, cas_in.status);
-        let aim = self.aim(mode, cas_in.value);
-        let out = self.next_out(mode, aim);
-        let pv = self.block.pv;
-        self.block
-            .move_to(mode, left_sp(mode, aim, out), pv, out, false);
+    fn run(&mut self, cas_in: Signal) {
+        let round = EndRound::new(&self.block, false, cas_in);
+        let out = self.next_out(round);
+        round.leave(&mut self.block, out, false);
     }
 }

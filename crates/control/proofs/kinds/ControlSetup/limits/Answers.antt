@@ -5,7 +5,7 @@ use Rattle.control.proofs.kinds.ControlSetup.limits.Goals as goal
 pub returns : goal.returns
 returns c =
     let s = c.in_ok-sp_limits.ensures in
-    let o = c.in_ok-out_limits.ensures in
+    let o = c.in_ok-out.ensures in
     let good = o.good in
     let low = o.low in
     let high = o.high in

@@ -1,7 +1,7 @@
 -- An end of one block owes no more than its own facts. Assumes nothing.
-use Rattle.std.proofs.Common.{◌≡◌, ℕ, zero, suc, ◌<◌, ◌≤◌, ◌≢◌, Err, sym, refl, ap, ◌∙◌, arith}
-use Rattle.std.proofs.lemmas.Bool.{false≢true}
-use Rattle.block.proofs.Asks.{standing, refused_same}
+use Rattle.std.proofs.Common.{◌≡◌, ℕ, zero, suc, ◌<◌, ◌≤◌, ◌≢◌, is_some, Err, sym, refl, ap, ◌∙◌, arith}
+use Rattle.std.proofs.lemmas.Option.{none-some}
+use Rattle.block.specs.Asks.{standing, same_make, refused_same}
 use Rattle.block.specs.Alone.{Own, AloneFacts, alone_model}
 use Rattle.block.specs.Calls.{after_ask}
 use Rattle.block.specs.Meaning.{Meaning, SameBuild}
@@ -15,8 +15,8 @@ module _ {S : Type 0} (o : Own S) (f : AloneFacts o) where
 
   fixed_asked : (s : S) (k : ℕ) (a : Ask) → SameBuild (alone_model o) s ((alone_model o).asked s k a)
   fixed_asked s zero a =
-      record { size = refl; settling = refl; settings = λ _ _. rw (f.put s (after_ask (o.the_block s) a)) (standing (o.the_block s) a).settings }
-  fixed_asked s (suc k) a = record { size = refl; settling = refl; settings = λ _ _. rw (f.same s) refl }
+      record { size = refl; settling = refl; blocks = λ _ _. rw (f.put s (after_ask (o.the_block s) a)) (same_make (o.the_block s) a) }
+  fixed_asked s (suc k) a = record { size = refl; settling = refl; blocks = λ _ _. rw (f.same s) (record { settings = refl; has_input = refl }) }
 
   refused_leaves : (s : S) (k : ℕ) (a : Ask) (r : Refusal) → (alone_model o).answer s k a ≡ Err r → (alone_model o).asked s k a ≡ s
   refused_leaves s zero a r e = rw (refused_same (o.the_block s) a r e) (f.same s)
@@ -64,7 +64,7 @@ module _ {S : Type 0} (o : Own S) (f : AloneFacts o) where
     kept_asked = kept_asked;
     kept_rounded = f.kept_rounded;
     fixed_asked = λ s k a _. fixed_asked s k a;
-    fixed_rounded = λ s c h. record { size = refl; settling = refl; settings = λ _ _. f.settings s c h };
+    fixed_rounded = λ s c h. record { size = refl; settling = refl; blocks = λ _ _. let r = f.round s c h in record { settings = r.settings; has_input = ap is_some r.leaves.input } };
     settling_range = λ s _. (f.number_range.0, f.number_range.1);
     shows = λ s _. refl;
     reads = λ s k _ l. reads s k l;
@@ -75,15 +75,15 @@ module _ {S : Type 0} (o : Own S) (f : AloneFacts o) where
     refused_leaves = λ s k a r _ e. refused_leaves s k a r e;
     restores = λ s k a b _ l q. restores s k a b l q;
     no_such_block = λ s k a _ l. no_such_block s k a l;
-    round_leaves = λ s c k h _. f.round_leaves s c h;
-    out_of_service = λ s c k h _. f.out_of_service s c h;
-    cas_on_target = λ s c k h _. f.cas_on_target s c h;
-    into_cas = λ s c k h _ n e. ((f.into_cas s c h n e).0, λ _. (f.into_cas s c h n e).1);
-    lo_by_switch = λ s c k h _. f.lo_by_switch s c h;
-    first_keeps_sp = λ s c h n e v. f.keeps_sp s c h n e v;
+    round_leaves = λ s c k h _. (f.round s c h).leaves;
+    out_of_service = λ s c k h _. (f.round s c h).out_of_service;
+    cas_on_target = λ s c k h _. (f.round s c h).cas_on_target;
+    into_cas = λ s c k h _ n e. let r = (f.round s c h).into_cas n e in (r.0, λ _. r.1);
+    lo_by_switch = λ s c k h _. (f.round s c h).lo_by_switch;
+    first_keeps_sp = λ s c h. (f.round s c h).keeps_sp;
     inner_keeps_sp = λ s c k h p l n e. absurd (omega arith);
-    takes_pv = λ s c k h _ t. absurd (false≢true (sym (f.no_input s h) ∙ t));
-    keeps_out = λ s c k h _ t _ _ _ _ _. absurd (false≢true (sym (f.no_input s h) ∙ t));
+    takes_pv = λ s c k i h _ t. absurd (none-some i (sym (f.no_input s h) ∙ t));
+    keeps_out = λ s c k i h _ t _ _ _ _ _. absurd (none-some i (sym (f.no_input s h) ∙ t));
     near = λ s _. f.near _ _;
     there = λ s _ e k _. f.there _ _ e;
     only_there = λ s _ all. rw (all 0 (omega arith)) (f.only_there _);
