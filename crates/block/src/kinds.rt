@@ -53,7 +53,8 @@ pub struct Block {
     pub hides_request: bool,
 }
 
-// The five calls that name a block, with the numbers and bytes as they came.
+// The five calls that name a block, with the numbers and bytes as they came. A sheet has them too, and a round: its crate
+// knows nothing of blocks and this one nothing of sheets, so each has an enum of its own.
 #[derive(Clone, Copy)]
 pub enum Ask {
     Target(u8),

@@ -78,9 +78,9 @@ mod tests {
 
     #[test]
     fn sheets(rt: HostRuntime) -> Result<(), Fail> {
-        for row in &SHEETS {
-            let text = listed(row.0, rt.alloc())?;
-            assert_eq!(rt; text.as_slice(), row.1);
+        for (sheet, listing) in SHEETS {
+            let text = listed(sheet, rt.alloc())?;
+            assert_eq!(rt; text.as_slice(), listing);
         }
         Ok(())
     }
@@ -96,12 +96,12 @@ mod tests {
     #[test]
     fn input(rt: HostRuntime) -> Result<(), Fail> {
         let heap = rt.alloc();
-        for row in &LENGTHS {
-            let all = vec![in heap; 0x40u8; row.0]?;
+        for (given, read) in LENGTHS {
+            let all = vec![in heap; 0x40u8; given]?;
             let bytes = read_input(all.as_slice(), heap)?;
-            assert_eq!(rt; bytes.len(), row.1);
+            assert_eq!(rt; bytes.len(), read);
             let text = listed(bytes.as_slice(), heap)?;
-            assert!(rt; text.starts_with(b"sheet 22 0\n") == (row.0 > 65_536));
+            assert!(rt; text.starts_with(b"sheet 22 0\n") == (given > 65_536));
         }
         Ok(())
     }
