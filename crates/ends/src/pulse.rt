@@ -1,6 +1,5 @@
 // The pulse end: its position, shown as OUT, goes towards the setpoint by one travel a round.
-ghost use Rattle.std.specs.Prelude.{◌≡◌, ◌≤◌, ◌+ℤ◌, IfOk, MatchResult};
-ghost use Rattle.std.specs.Int.Signed.{mag};
+ghost use Rattle.std.specs.Prelude.{◌≡◌, ◌≤◌, ◌+ℤ◌, IfOk, MatchResult, unsigned_abs};
 ghost use Rattle.block.specs.Modes.{runs};
 ghost use Rattle.ends.specs.Making.{PulseGood, PulseFault, PulseFrom};
 ghost use Rattle.ends.specs.Pulse.{stepped, pulse_out, pulse_own};
@@ -36,7 +35,7 @@ fn runs(mode: Mode) -> bool
 
 // The number so far off a position, up or down; it may lie out of range.
 fn off(from: Value, by: i32) -> i32
-    requires { mag by ≤ 1000 }
+    requires { unsigned_abs by ≤ 1000 }
     ensures { result ≡ from.raw +ℤ by }
 {
     from.raw() + by
