@@ -1,5 +1,5 @@
 // An end that is one block: what is its own, and the lower end that it then is.
-ghost use Rattle.std.specs.Prelude.{◌≡◌};
+ghost use Rattle.std.specs.Prelude.{◌≡◌, ℕ};
 ghost use Rattle.block.specs.Alone.{Own, AloneFacts, alone_model};
 ghost use Rattle.block.specs.Calls.{answer_of, after_ask};
 ghost use Rattle.block.specs.AloneMeaning.{alone_meaning};
@@ -8,12 +8,14 @@ use crate::end::LowerEnd;
 use crate::kinds::{Ask, Block, Reading, Refusal};
 use signal::Signal;
 
+// Each end lends its block and hands a call on to it in two lines of its own, since the field is its own.
 pub trait OneBlock {
     ghost own: { Own Self };
 
     // The number N.
-    fn settling_number(&self) -> u16
-        ensures { result ≡ own.number };
+    const SETTLING: u16;
+
+    ghost SETTLING: { ℕ };
 
     fn block(&self) -> &Block
         ensures { result.now ≡ own.the_block self.now };
@@ -24,6 +26,8 @@ pub trait OneBlock {
 
     fn run(&mut self, cas_in: Signal)
         ensures { self.new ≡ own.rounded self.old cas_in };
+
+    ghost settles: { own.number ≡ SETTLING };
 
     ghost facts: { AloneFacts own };
 }
@@ -38,7 +42,7 @@ impl<S: OneBlock> LowerEnd for S {
     }
 
     fn settling(&self) -> u16 {
-        self.settling_number()
+        S::SETTLING
     }
 
     fn shown(&self) -> Signal {

@@ -33,6 +33,7 @@ impl Numbered for EndFault {
     }
 }
 
+// One `From` for each pair of faults, here and in the other layers: no macro may write an `impl`.
 impl From<LimitsFault> for EndFault {
     ghost from_gives = { λ f r. r ≡ BadLimits };
 

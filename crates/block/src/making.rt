@@ -47,6 +47,7 @@ impl TryFrom<u8> for Options {
     ghost try_from_gives = { λ b r. OptionsFrom b r × MatchResult r (λ o. options_of b ≡ Some o) (λ _. options_of b ≡ None) };
 
     fn try_from(byte: u8) -> Result<Options, OptionsFault> {
+        // With `&` in place of quotients it does not close which bits stand.
         if byte >= 16 || byte / 2 % 2 != 0 {
             return Err(OptionsFault::BadOptions);
         }

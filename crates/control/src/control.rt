@@ -10,6 +10,7 @@ use block::{Ask, LowerEnd, Reading, Refusal};
 use law::Law;
 use signal::{Mode, OperatingPoint, Signal, Value};
 
+// Of the mode, of what is shown below and of what comes from above each step takes what its rule names, and no struct of them.
 impl<L: Law, E: LowerEnd> Control<L, E> {
     // Steps 4 and 5: the output, and the law stepped or started anew.
     fn run_law(&mut self, mode: Mode, bkcal_in: Signal, at: OperatingPoint) -> Value

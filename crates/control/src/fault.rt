@@ -32,6 +32,7 @@ impl Numbered for ControlFault {
     }
 }
 
+// One `From` for each fault that is carried or turned: no macro may write an `impl`.
 impl From<LawFault> for ControlFault {
     ghost from_gives = { λ f r. r ≡ Law f };
 

@@ -1,5 +1,5 @@
 // The analog end: OUT follows the setpoint, and goes to the fault state after so many faulty rounds.
-ghost use Rattle.std.specs.Prelude.{◌≡◌, Some, None, IfOk, MatchResult};
+ghost use Rattle.std.specs.Prelude.{◌≡◌, Some, None, IfOk, MatchResult, refl};
 ghost use Rattle.block.specs.Making.{BoundedFrom};
 ghost use Rattle.block.specs.declared.fault.EndFault.TheVariants.{BadAction};
 ghost use Rattle.ends.specs.Analog.{brings_fault, analog_count, analog_out, analog_own};
@@ -15,8 +15,8 @@ use signal::{LimitsFault, Mode, Quality, Signal, Status, Value};
 // What LO by fault does to OUT.
 #[derive(Clone, Copy)]
 pub enum FaultAction {
-    Hold = 0,
-    Value = 1,
+    Hold,
+    Value,
 }
 
 // Why a byte is no fault action. What is made of it has the number.
@@ -113,12 +113,7 @@ impl Analog {
         if self.block.target != Mode::Cas || !brings_fault(cas_in) {
             return 0;
         }
-        let most = self.fault_time.get();
-        if self.count < most {
-            self.count + 1
-        } else {
-            most
-        }
+        self.count.saturating_add(1).min(self.fault_time.get())
     }
 
     fn next_out(&self, round: EndRound) -> Value
@@ -135,11 +130,13 @@ impl Analog {
 impl OneBlock for Analog {
     ghost own = { analog_own };
 
-    ghost facts = { analog_facts };
+    const SETTLING: u16 = 2;
 
-    fn settling_number(&self) -> u16 {
-        2
-    }
+    ghost SETTLING = { 2 };
+
+    ghost settles = { refl };
+
+    ghost facts = { analog_facts };
 
     fn block(&self) -> &Block {
         &self.block

@@ -1,5 +1,5 @@
 // The pulse end: its position, shown as OUT, goes towards the setpoint by one travel a round.
-ghost use Rattle.std.specs.Prelude.{◌≡◌, ◌≤◌, ◌+ℤ◌, IfOk, MatchResult, unsigned_abs};
+ghost use Rattle.std.specs.Prelude.{◌≡◌, ◌≤◌, ◌+ℤ◌, IfOk, MatchResult, unsigned_abs, refl};
 ghost use Rattle.block.specs.Modes.{runs};
 ghost use Rattle.ends.specs.Making.{PulseGood, PulseFault, PulseFrom};
 ghost use Rattle.ends.specs.Pulse.{stepped, pulse_out, pulse_own};
@@ -33,7 +33,7 @@ fn runs(mode: Mode) -> bool
     matches!(mode, Mode::Auto | Mode::Cas)
 }
 
-// The number so far off a position, up or down; it may lie out of range.
+// The number so far off a position, up or down; it may lie out of range. Written inline, its two sums do not close.
 fn off(from: Value, by: i32) -> i32
     requires { unsigned_abs by ≤ 1000 }
     ensures { result ≡ from.raw +ℤ by }
@@ -83,11 +83,13 @@ impl Pulse {
 impl OneBlock for Pulse {
     ghost own = { pulse_own };
 
-    ghost facts = { pulse_facts };
+    const SETTLING: u16 = 3;
 
-    fn settling_number(&self) -> u16 {
-        3
-    }
+    ghost SETTLING = { 3 };
+
+    ghost settles = { refl };
+
+    ghost facts = { pulse_facts };
 
     fn block(&self) -> &Block {
         &self.block

@@ -1,5 +1,5 @@
 // A third end: a valve that is either open or shut.
-ghost use Rattle.std.specs.Prelude.{◌≡◌, true, false};
+ghost use Rattle.std.specs.Prelude.{◌≡◌, true, false, refl};
 ghost use Rattle.block.specs.Making.{fresh_block};
 ghost use Rattle.ends.specs.Making.{end_settings};
 ghost use Rattle.guests.specs.OnOff.{on_off_out, OnOffKept, on_off_own};
@@ -40,11 +40,13 @@ impl OnOff {
 impl OneBlock for OnOff {
     ghost own = { on_off_own };
 
-    ghost facts = { on_off_facts };
+    const SETTLING: u16 = 2;
 
-    fn settling_number(&self) -> u16 {
-        2
-    }
+    ghost SETTLING = { 2 };
+
+    ghost settles = { refl };
+
+    ghost facts = { on_off_facts };
 
     fn block(&self) -> &Block {
         &self.block

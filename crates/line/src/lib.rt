@@ -10,14 +10,15 @@ ghost use Rattle.line.specs.Wrote.{Wrote};
 use itoa::{Buffer, Integer};
 use std::alloc::AllocError;
 
-// Writes `n` in decimal digits, behind a `-` where it is below 0; where memory is wanting, `out` stays as it was.
+// Writes `n` in decimal digits, behind a `-` where it is below 0; where memory is wanting, `out` stays as it was. `N.text` is
+// `decimal` of an unsigned type and `signed_decimal` of a signed one, as `itoa` says.
 pub fn put_number<N: Integer>(out: &mut Vec<u8>, n: N) -> Result<(), AllocError>
     ensures { Appended out.old out.new result (N.text n) }
 {
     out.extend_from_slice(Buffer::new().format(n).as_bytes())
 }
 
-// The hexadecimal digit of a number below 16. The kit's `hex` writes lower case.
+// The hexadecimal digit of a number below 16. The kit's `hex` has upper case only in new memory, which may be wanting.
 fn hex_digit(d: u8) -> u8
     requires { d < 16 }
     ensures { result ≡ digit_glyph true d }

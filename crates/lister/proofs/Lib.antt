@@ -1,3 +1,3 @@
 mod Lines
-mod Pages
+mod Parts
 mod Whole

@@ -1,2 +1,2 @@
 pub mod Listing
-pub mod Page
+pub mod Listed

@@ -8,7 +8,7 @@ ghost use Rattle.sheet.specs.Calls.{calls_of};
 ghost use Rattle.sheet.specs.declared.record.Call.TheVariants.{Input};
 ghost use Rattle.sheet.specs.declared.record.SheetFault.TheVariants.{Memory};
 ghost use Rattle.lister.specs.Listing.{target_text, parts_text, named, status_text, call_text, call_value, record_line, lines_from, end_line};
-ghost use Rattle.lister.specs.Page.{Listed, Roomy};
+ghost use Rattle.lister.specs.Listed.{Listed, Roomy};
 
 use line::{Hex, Number, Text};
 use sheet::read::read_sheet;

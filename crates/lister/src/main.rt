@@ -1,7 +1,8 @@
 // Reads a call sheet on standard input and says what is on it; no call is run.
 #![tactic(auto)]
 
-ghost use Rattle.std.specs.Prelude.{◌≡◌, List, IfOk};
+ghost use Rattle.std.specs.Prelude.{◌≡◌, List, IfOk, IsOkUnless};
+ghost use Rattle.sheet.specs.declared.record.SheetFault.TheVariants.{Memory};
 ghost use Rattle.sheet.specs.OneWay.{Ending, Reads};
 ghost use Rattle.sheet.specs.declared.record.Record.{Record};
 ghost use Rattle.lister.specs.Listing.{listing};
@@ -24,7 +25,8 @@ fn read_input<R: Read + Drop>(from: R, heap: Global) -> io::Result<Vec<u8>> {
 
 // The listing of a sheet.
 fn listed(bytes: &[u8], heap: Global) -> Result<Vec<u8>, SheetFault>
-    ensures { IfOk result (λ v. (rs : List Record) (e : Ending) → Reads bytes.now rs e → v.items ≡ listing rs e) }
+    ensures listed { IfOk result (λ v. (rs : List Record) (e : Ending) → Reads bytes.now rs e → v.items ≡ listing rs e) }
+    ensures memory { IsOkUnless result Memory }
 {
     let mut records = Vec::new(heap);
     let mut text = Vec::new(heap);

@@ -36,6 +36,7 @@ impl Iterator for Calls {
 
     ghost remaining = { λ s. at_most (length (calls_left s)) };
 
+    // In a chain of `or_else` it does not close what each closure leaves of the record.
     fn next(&mut self) -> Option<Call> {
         if let Some(byte) = self.rest.target.take() {
             return Some(Call::Target(byte));

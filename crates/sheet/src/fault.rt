@@ -6,6 +6,7 @@ ghost use Rattle.sheet.specs.Refusals.{fault_number, fault_place};
 use crate::record::SheetFault;
 use std::alloc::{AllocError, AllocFailed};
 
+// Two, since a list gives back what it could not keep and a buffer does not.
 impl From<AllocError> for SheetFault {
     ghost from_gives = { λ _ r. r ≡ Memory };
 
@@ -40,10 +41,8 @@ impl SheetFault {
         ensures { result ≡ fault_place self }
     {
         match self {
-            SheetFault::CutShort(place) => place,
-            SheetFault::BitSeven(place) => place,
-            SheetFault::TooLong => 0,
-            SheetFault::Memory => 0,
+            SheetFault::CutShort(place) | SheetFault::BitSeven(place) => place,
+            SheetFault::TooLong | SheetFault::Memory => 0,
         }
     }
 }

@@ -103,6 +103,7 @@ impl Field for Input {
     }
 
     fn put(self, out: &mut Vec<u8>) -> Result<(), AllocError> {
+        // one step and not two: where memory is wanting, nothing of it is written
         let [a, b, c, d] = self.value.to_be_bytes();
         out.extend_from_slice(&[a, b, c, d, self.status.0])
     }

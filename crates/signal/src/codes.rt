@@ -65,8 +65,8 @@ fn name_in(rows: &[Row], quality: Quality, sub_status: u8) -> Option<&'static [u
     ensures { option_map (λ x. x.now) result ≡ name_in (map row_of rows.now) (quality_number quality) sub_status }
 {
     rows.iter()
-        .find(|row| row.0 == quality && row.1 == sub_status)
-        .map(|row| row.2)
+        .find(|&&(q, s, _)| q == quality && s == sub_status)
+        .map(|&(_, _, name)| name)
 }
 
 impl Status {

@@ -28,7 +28,8 @@ pub enum TargetFault {
     NotATarget = 3,
 }
 
-// The tables stand in the order of the modes. A word is a byte string, since it goes into a line of bytes.
+// A table for each of byte, word and status, in the order of the modes, and a method that reads it: a rule of the project, as
+// is that a word is a byte string, which goes into a line of bytes.
 const MODE_BYTES: [u8; 6] = [0x80, 0x40, 0x20, 0x10, 0x08, 0x04];
 
 const MODE_WORDS: [&'static [u8]; 6] = [b"OS", b"IMAN", b"LO", b"MAN", b"AUTO", b"CAS"];

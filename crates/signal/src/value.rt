@@ -30,14 +30,11 @@ impl TryFrom<i32> for Value {
 
     ghost try_from_gives = { λ raw r. ValueFrom raw r × IfOk r (λ v. v ≡ value_near raw) };
 
-    fn try_from(raw: i32) -> Result<Value, ValueFault>
-        ensures from { ValueFrom raw result }
-        ensures near { IfOk result (λ v. v ≡ value_near raw) }
-    {
-        if raw < LEAST || GREATEST < raw {
-            return Err(ValueFault::OutOfRange);
+    fn try_from(raw: i32) -> Result<Value, ValueFault> {
+        match raw {
+            LEAST..=GREATEST => Ok(Value { raw }),
+            _ => Err(ValueFault::OutOfRange),
         }
-        Ok(Value { raw })
     }
 }
 
@@ -46,8 +43,7 @@ impl Value {
 
     // A number of any signed width: a law's sum is wider than a value.
     pub fn pulled_in<N: Into<i64>>(raw: N) -> Value
-        ensures nearest { (z : _) × N.converts raw z × Nearest (negsuc 999999) (pos 1000000) z result.raw }
-        ensures value { (z : _) × N.converts raw z × (result ≡ value_near z) }
+        ensures { (z : _) × N.converts raw z × Nearest (negsuc 999999) (pos 1000000) z result.raw × (result ≡ value_near z) }
     {
         Limits::RANGE.nearest(raw.into())
     }

@@ -6,6 +6,6 @@ use Rattle.guests.proofs.dead_band.moved_by.Goals as goal
 
 pub returns : goal.returns
 returns c =
-    let v = c.pulled_in.ensures.value in
+    let v = c.pulled_in.ensures in
     let e : v.0 ≡ c.args.out.raw +ℤ c.args.error = omega (arith, ints) in
-    v.2 ∙ ap value_near e
+    v.3 ∙ ap value_near e

@@ -6,6 +6,6 @@ use Rattle.law.proofs.gain_bias.GainBias.answer.Goals as goal
 
 pub returns : goal.returns
 returns c =
-    let v = c.pulled_in.ensures.value in
+    let v = c.pulled_in.ensures in
     let e : v.0 ≡ gained_by c.args.self.now c.args.sp +ℤ c.args.self.now.bias = omega (arith, ints) in
-    v.2 ∙ ap value_near e
+    v.3 ∙ ap value_near e

@@ -7,7 +7,7 @@ use Rattle.law.proofs.quotient.Quotient.added_to.Goals as goal
 
 pub returns : goal.returns
 returns c =
-    let v = c.pulled_in.ensures.value in
+    let v = c.pulled_in.ensures in
     let e : v.0 ≡ c.saturating_add.result = omega (arith, ints) in
-    v.2
+    v.3
     ∙ same_value _ _ (ap in_range e ∙ saturated_same _ _ (c.args.out.raw +ℤ c.args.self.whole) c.saturating_add.ensures (omega (arith, ints)))

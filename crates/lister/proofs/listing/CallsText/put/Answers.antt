@@ -3,7 +3,7 @@ use Rattle.std.proofs.lemmas.Result.{err_from_is_err_and}
 use Rattle.std.specs.List.{flat_map}
 use Rattle.sheet.specs.Calls.{calls_left}
 use Rattle.lister.specs.Listing.{call_text}
-use Rattle.lister.proofs.Pages.{part_none, part_more, part_stop, part_all}
+use Rattle.lister.proofs.Parts.{part_none, part_more, part_stop, part_all}
 use Rattle.lister.proofs.listing.CallsText.put.Goals as goal
 
 pub loop-call-init : goal.loop-call-init

@@ -1,7 +1,7 @@
 use Rattle.std.specs.List.{flat_map}
 use Rattle.sheet.specs.Calls.{calls_of, calls_left}
 use Rattle.lister.specs.Listing.{call_text}
-use Rattle.lister.proofs.Pages.{Part}
+use Rattle.lister.proofs.Parts.{Part}
 use Rattle.lister.proofs.listing.CallsText.put.Given as goal
 
 abbrev pub invariant-loop-call : goal.invariant-loop-call

@@ -2,7 +2,7 @@ use Rattle.std.proofs.Common.{[], get_or, refl, arith}
 use Rattle.std.proofs.lemmas.Result.{err_from_is_err_and}
 use Rattle.lister.specs.Listing.{record_line}
 use Rattle.lister.proofs.Lines.{blank, lines_more, lines_all, bytes_more}
-use Rattle.lister.proofs.Pages.{part_more, part_stop, part_all}
+use Rattle.lister.proofs.Parts.{part_more, part_stop, part_all}
 use Rattle.lister.proofs.listing.LinesText.put.Goals as goal
 
 pub returns-in_err-put : goal.returns-in_err-put

@@ -1,7 +1,7 @@
 use Rattle.std.proofs.Common.{◌≡◌, ◌+◌, length, drop}
 use Rattle.sheet.specs.Bytes.{sheet_bytes}
 use Rattle.lister.specs.Listing.{lines_from}
-use Rattle.lister.proofs.Pages.{Part}
+use Rattle.lister.proofs.Parts.{Part}
 use Rattle.lister.proofs.listing.LinesText.put.Given as goal
 
 abbrev pub invariant-loop-record : goal.invariant-loop-record

@@ -1,6 +1,6 @@
--- What stands on a page of text behind what it held. Assumes nothing.
+-- What a buffer holds behind what it held before. Assumes nothing.
 --     Listed bs p q       what q holds more than p is the listing of the sheet bs
---     Roomy bs room p     there is room for all that is on the sheet bs: for its records, and on the page p
+--     Roomy bs room p     there is room for all that is on the sheet bs: for its records, and in the buffer p
 use Rattle.std.specs.Prelude.{◌≡◌, ℕ, ◌+◌, ◌≤◌, List, ◌++◌, length, vec_items, vec_len, vec_capacity, Vec}
 use Rattle.sheet.specs.OneWay.{Ending, Reads}
 use Rattle.sheet.specs.declared.record.Record.{Record}
