@@ -22,6 +22,7 @@ pub trait LowerEnd {
     fn read(&self, number: u8) -> Result<Reading, Refusal>
         ensures { result ≡ model.reading self.now number };
 
+    // The number stands beside the call: a block alone is asked without one.
     fn ask(&mut self, number: u8, ask: Ask) -> Result<(), Refusal>
         ensures answer { result ≡ model.answer self.old number ask }
         ensures after { self.new ≡ model.asked self.old number ask };

@@ -25,6 +25,7 @@ pub struct Pi {
     rest: u16,
 }
 
+// As an end's fault action is read, but in another crate and with another fault.
 impl TryFrom<u8> for Action {
     type Error = LawFault;
 

@@ -16,7 +16,7 @@ use std::alloc::Global;
 use std::io;
 use std::io::{Read, Write};
 
-// The bytes of a sheet. One byte more than the longest sheet is enough to refuse it.
+// The bytes of a sheet. One byte more than the longest sheet is enough to refuse it. No `From` widens a `usize`.
 fn read_input<R: Read + Drop>(from: R, heap: Global) -> io::Result<Vec<u8>> {
     let mut bytes = Vec::new(heap);
     from.take(MAX_SHEET as u64 + 1).read_to_end(&mut bytes)?;

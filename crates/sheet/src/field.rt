@@ -126,10 +126,7 @@ pub fn field_len<F: Field>(f: Option<F>) -> usize
     ensures length { result ≡ length (field F.wire f) }
     ensures most { result ≤ F.WIDTH }
 {
-    match f {
-        Some(_) => F::WIDTH,
-        None => 0,
-    }
+    f.map_or(0, |_| F::WIDTH)
 }
 
 // Writes a field where there is one.
@@ -139,6 +136,7 @@ pub fn put_field<F: Field>(f: Option<F>, out: &mut Vec<u8>) -> Result<(), AllocE
     ensures capacity { vec_capacity out.old ≤ vec_capacity out.new }
     ensures succeeds { vec_len out.old + length (field F.wire f) ≤ vec_capacity out.old → is_ok result ≡ true }
 {
+    // with `map_or` it does not close what its closure writes
     match f {
         Some(x) => x.put(out),
         None => Ok(()),

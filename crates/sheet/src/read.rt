@@ -68,6 +68,7 @@ impl<'a> Sheet<'a> {
         let Some([map, behind @ ..]) = self.bytes.get(place..) else {
             return Err(SheetFault::CutShort(place));
         };
+        // left by `else` as above, where a pattern leaves no other way
         let Some((record, rest)) = take_fields(*map, behind) else {
             return Err(SheetFault::CutShort(place));
         };

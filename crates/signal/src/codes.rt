@@ -43,6 +43,7 @@ static CODES: [Row; 30] = [
     (GoodCascade, 8, b"Initiate Fault State"),
 ];
 
+// A table with a method that reads it, as for the modes.
 const QUALITY_WORDS: [&'static [u8]; 4] = [b"Bad", b"Uncertain", b"Good", b"Good-cascade"];
 
 impl Quality {

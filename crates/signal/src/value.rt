@@ -41,7 +41,7 @@ impl TryFrom<i32> for Value {
 impl Value {
     pub const ZERO: Value = Value { raw: 0 };
 
-    // A number of any signed width: a law's sum is wider than a value.
+    // Any number that widens to 64 bits: a law's sum is wider than a value.
     pub fn pulled_in<N: Into<i64>>(raw: N) -> Value
         ensures { (z : _) × N.converts raw z × Nearest (negsuc 999999) (pos 1000000) z result.raw × (result ≡ value_near z) }
     {
