@@ -15,7 +15,12 @@ use std::alloc::AllocError;
 pub fn put_number<N: Integer>(out: &mut Vec<u8>, n: N) -> Result<(), AllocError>
     ensures { Appended out.old out.new result (N.text n) }
 {
-    out.extend_from_slice(Buffer::new().format(n).as_bytes())
+    let mut buffer = Buffer::new();
+    match buffer.format(n).as_bytes() {
+        // one digit is the commonest, and its length is known
+        [digit] => out.extend_from_slice(&[*digit]),
+        text => out.extend_from_slice(text),
+    }
 }
 
 // The hexadecimal digit of a number below 16. The kit's `hex` has upper case only in new memory, which may be wanting.

@@ -5,7 +5,7 @@
 --     Begins bs rs        the records rs stand at the front of bs, and one more behind them
 --     RecordAt bs p r q   the record r stands at the place p of bs, and the next place is q
 --     BadAt bs p f        no record stands at the place p of bs, for the reason f
-use Rattle.std.specs.Prelude.{◌≡◌, ℕ, ◌+◌, ◌<◌, ◌≤◌, List, [], ◌∷◌, ◌++◌, length, drop, Ok, Err, Some, None, Option, Result}
+use Rattle.std.specs.Prelude.{◌≡◌, ℕ, ◌+◌, ◌<◌, ◌≤◌, List, [], ◌∷◌, ◌++◌, length, drop, Ok, Err, Result}
 use Rattle.std.specs.List.{AllByRecursion}
 use Rattle.sheet.specs.declared.record.Record.{Record}
 use Rattle.sheet.specs.declared.record.SheetFault.{SheetFault}
@@ -84,9 +84,3 @@ pub record OneWay : Type 0 where
   pub one_record : (bs : List ℕ) (p : ℕ) (r r' : Record) (q q' : ℕ) → RecordAt bs p r q → RecordAt bs p r' q' → (r ≡ r') × (q ≡ q')
   -- and no record is refused
   pub not_both : (bs : List ℕ) (p : ℕ) (r : Record) (q : ℕ) (f : SheetFault) → RecordAt bs p r q → BadAt bs p f → ⊥
-
--- the next record of the sheet bs from the place p on, or the reason why none is there, and the place q after that
-abbrev pub Next : List ℕ → ℕ → Option (Result Record SheetFault) → ℕ → Type 0
-Next bs p None q = (length bs ≤ p) × (q ≡ p)
-Next bs p (Some (Ok r)) q = (p < length bs) × RecordAt bs p r q
-Next bs p (Some (Err f)) q = (p < length bs) × BadAt bs p f × (q ≡ length bs)

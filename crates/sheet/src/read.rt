@@ -1,9 +1,8 @@
 // Reads records from the bytes of a sheet.
-ghost use Rattle.std.specs.Prelude.{◌≡◌, ◌-◌, ◌%◌, ◌<◌, ◌≤◌, List, ◌++◌, length, Err, vec_len, vec_capacity, MatchOption, MatchResult};
+ghost use Rattle.std.specs.Prelude.{◌≡◌, ◌%◌, ◌<◌, ◌≤◌, List, ◌++◌, length, Err, vec_len, vec_capacity, MatchOption, MatchResult};
 ghost use Rattle.sheet.specs.Bytes.{stands, fields, bit_map, promised_length, Sound};
-ghost use Rattle.std.specs.Iterator.{at_most};
 ghost use Rattle.sheet.specs.declared.record.SheetFault.TheVariants.{TooLong, Memory};
-ghost use Rattle.sheet.specs.OneWay.{RecordAt, BadAt, Next, Outcome, OneWay};
+ghost use Rattle.sheet.specs.OneWay.{RecordAt, BadAt, Outcome, OneWay};
 
 use crate::field::take_field;
 use crate::record::{Record, SheetFault};
@@ -77,46 +76,6 @@ impl<'a> Sheet<'a> {
         }
         Ok((record, self.bytes.len() - rest.len()))
     }
-
-    fn records(self) -> Records<'a>
-        ensures { (result.sheet.bytes.now ≡ self.entry.bytes.now) × (result.place ≡ 0) }
-    {
-        Records {
-            sheet: self,
-            place: 0,
-        }
-    }
-}
-
-// The records of a sheet from a place on; a bad one is the last.
-#[derive(Clone, Copy)]
-struct Records<'a> {
-    sheet: Sheet<'a>,
-    place: usize,
-}
-
-impl Iterator for Records<'_> {
-    type Item = Result<Record, SheetFault>;
-
-    ghost next_gives = { λ s r t. (t.sheet.bytes.now ≡ s.sheet.bytes.now) × Next s.sheet.bytes.now s.place r t.place };
-
-    ghost remaining = { λ s. at_most (length s.sheet.bytes.now - s.place) };
-
-    fn next(&mut self) -> Option<Result<Record, SheetFault>> {
-        if self.place >= self.sheet.bytes.len() {
-            return None;
-        }
-        match self.sheet.record(self.place) {
-            Ok((record, next)) => {
-                self.place = next;
-                Some(Ok(record))
-            }
-            Err(fault) => {
-                self.place = self.sheet.bytes.len();
-                Some(Err(fault))
-            }
-        }
-    }
 }
 
 // Reads the record at a place; answers it and the place behind it.
@@ -135,8 +94,13 @@ pub fn read_sheet(bytes: &[u8], records: &mut Vec<Record>) -> Result<(), SheetFa
     ensures full { result ≡ Err Memory → vec_capacity records.old ≤ vec_len records.new }
     ensures one_way { OneWay }
 {
-    for record in Sheet::new(bytes)?.records() {
-        records.push(record?)?;
+    // By hand: from an iterator of results each record is copied through memory twice more, at up to twice the time.
+    let sheet = Sheet::new(bytes)?;
+    let mut place = 0;
+    while place < bytes.len() {
+        let (record, next) = sheet.record(place)?;
+        records.push(record)?;
+        place = next;
     }
     Ok(())
 }
