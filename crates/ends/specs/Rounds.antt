@@ -18,6 +18,7 @@ use Rattle.block.proofs.Pulled.{pulled_same, pulled_inside}
 use Rattle.block.specs.Calls.{after_ask}
 use Rattle.block.specs.Lines.{cause_of, usable, keeps_cas}
 use Rattle.block.specs.Making.{zero_value, fresh_block}
+use Rattle.block.specs.Meaning.{Untouched}
 use Rattle.block.specs.Modes.{is_cas}
 use Rattle.block.specs.Shown.{shown_status}
 use Rattle.block.specs.declared.kinds.Ask.{Ask}
@@ -72,17 +73,21 @@ module _ (b : Block) (fault : Bool) (c : Signal) (out : Value) (hides : Bool) wh
     no_input = k.no_input;
   }
 
+  -- target, switch and input come out of a round as they went in, in any block
+  pub untouched : Untouched b (rounded_block b fault c out hides)
+  untouched = record { target = refl; switch = refl; input = refl }
+
   cas_sp : (m : Mode) → m ≡ Cas → left_sp m (aimed_sp b m c.value) out ≡ pulled b.settings.sp_limits c.value
   cas_sp m e = rw e refl
 
   -- coming into Cas on a value equal to the setpoint
-  keeps_sp : KeptBlock b → end_mode b fault c ≡ Cas → c.value ≡ b.at.sp → (rounded_block b fault c out hides).at.sp ≡ b.at.sp
+  pub keeps_sp : KeptBlock b → end_mode b fault c ≡ Cas → c.value ≡ b.at.sp → (rounded_block b fault c out hides).at.sp ≡ b.at.sp
   keeps_sp k e v = cas_sp (end_mode b fault c) e ∙ (ap (pulled b.settings.sp_limits) v ∙ pulled_same b.settings.sp_limits b.at.sp k.sp_inside)
 
   pub round_owes : KeptBlock b → RoundOwes b c (rounded_block b fault c out hides)
   round_owes k = record {
     settings = refl;
-    leaves = record { target = refl; switch = refl; input = refl };
+    leaves = untouched;
     out_of_service = next_os b 0xC0 fault c.status.0;
     cas_on_target = next_cas_target b 0xC0 fault c.status.0;
     into_cas = next_cas_asked b 0xC0 fault c.status.0;
