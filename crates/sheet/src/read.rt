@@ -94,7 +94,7 @@ pub fn read_sheet(bytes: &[u8], records: &mut Vec<Record>) -> Result<(), SheetFa
     ensures full { result ≡ Err Memory → vec_capacity records.old ≤ vec_len records.new }
     ensures one_way { OneWay }
 {
-    // By hand: from an iterator of results each record is copied through memory twice more, at up to twice the time.
+    // By hand: from an iterator of results each record is copied through memory twice more, at about twice the time.
     let sheet = Sheet::new(bytes)?;
     let mut place = 0;
     while place < bytes.len() {
